@@ -1,4 +1,5 @@
 // The lowest of the four libraries: faults, draw sources, AES-128, CMAC, SIV and the Aead interface.
 // Nothing here allocates, and no public call asks anything of its caller.
+pub mod aes;
 pub mod draws;
 pub mod fault;
