@@ -4,3 +4,5 @@ pub mod Bytes
 pub mod Gf256
 pub mod Fips197
 pub mod Keys
+pub mod Rfc4493
+pub mod Tagging
