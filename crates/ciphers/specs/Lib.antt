@@ -6,3 +6,4 @@ pub mod Fips197
 pub mod Keys
 pub mod Rfc4493
 pub mod Tagging
+pub mod Rfc5297

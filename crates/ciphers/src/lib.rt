@@ -5,3 +5,4 @@ mod blocks;
 pub mod cmac;
 pub mod draws;
 pub mod fault;
+pub mod siv;
