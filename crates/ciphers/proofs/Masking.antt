@@ -65,25 +65,36 @@ module _ (E : Cipher) (q : ℕ) where
   block-masked j m s e full few = ap (λ (n : ℕ). maskedFrom E q n m) (sym (add-zero (16 * j))) ∙ in-block j 0 m s e full (omega arith)
 
   -- the text up to e masked, from the text up to at and one more part of a block
+  pub masked-next : (text s b : List ℕ) (j at e : ℕ) → at ≡ 16 * j → at ≤ length text
+      → s ≡ E (counter q j) → length s ≡ 16 → length b ≤ 16 → take e text ≡ take at text ++ b
+      → masked E q (take e text) ≡ masked E q (take at text) ++ xors b s
+  masked-next text s b j at e is inside block full few parts =
+      let a = take at text in
+      let place : 0 + length a ≡ 16 * j = zero-add (length a) ∙ (length-take-le at text inside ∙ is) in
+      ap (masked E q) parts ∙
+      (masked-append 0 a b ∙ ap (λ (l : List ℕ). masked E q a ++ l) (ap (λ (n : ℕ). maskedFrom E q n b) place ∙ block-masked j b s block full few))
+
+  -- and written into its place
   pub mask-step : (text o out s b : List ℕ) (j at e : ℕ) → at ≡ 16 * j → at ≤ length text → out ≡ masked E q (take at text) ++ drop at o
       → s ≡ E (counter q j) → length s ≡ 16 → length b ≤ 16 → e ≡ at + length b → take e text ≡ take at text ++ b
       → take at out ++ (xors b s ++ drop e out) ≡ masked E q (take e text) ++ drop e o
   mask-step text o out s b j at e is inside before block full few end parts =
-      let a = take at text in
-      let la : length a ≡ at = length-take-le at text inside in
-      let len : length (masked E q a) ≡ at = length-masked 0 a ∙ la in
-      let head : take at out ≡ masked E q a = ap (take at) before ∙ take-at (masked E q a) (drop at o) at len in
+      let m = masked E q (take at text) in
+      let len : length m ≡ at = length-masked 0 (take at text) ∙ length-take-le at text inside in
+      let head : take at out ≡ m = ap (take at) before ∙ take-at m (drop at o) at len in
       let rest : drop e out ≡ drop e o =
           ap (λ (n : ℕ). drop n out) end ∙
           (sym (drop-drop (length b) at out) ∙
-          (ap (drop (length b)) (ap (drop at) before ∙ drop-at (masked E q a) (drop at o) at len) ∙
+          (ap (drop (length b)) (ap (drop at) before ∙ drop-at m (drop at o) at len) ∙
           (drop-drop (length b) at o ∙ ap (λ (n : ℕ). drop n o) (sym end)))) in
-      let more : masked E q (take e text) ≡ masked E q a ++ xors b s =
-          ap (masked E q) parts ∙
-          (masked-append 0 a b ∙ ap (λ (l : List ℕ). masked E q a ++ l) (ap (λ (n : ℕ). maskedFrom E q n b) (zero-add (length a) ∙ (la ∙ is)) ∙ block-masked j b s block full few)) in
+      let more = masked-next text s b j at e is inside block full few parts in
       ap (λ (l : List ℕ). l ++ (xors b s ++ drop e out)) head ∙
-      (ap (λ (l : List ℕ). masked E q a ++ (xors b s ++ l)) rest ∙
-      (sym (append-assoc (masked E q a) (xors b s) (drop e o)) ∙ ap (λ (l : List ℕ). l ++ drop e o) (sym more)))
+      (ap (λ (l : List ℕ). m ++ (xors b s ++ l)) rest ∙
+      (sym (append-assoc m (xors b s) (drop e o)) ∙ ap (λ (l : List ℕ). l ++ drop e o) (sym more)))
+
+  -- the front of an output that a text was masked into
+  pub masked-front : (n : ℕ) (t out o : List ℕ) → out ≡ masked E q t ++ o → n ≡ length t → take n out ≡ masked E q t
+  masked-front n t out o e h = ap (take n) e ∙ take-at (masked E q t) o n (length-masked 0 t ∙ sym h)
 
 -- the key stream from block j on
 module _ (E : Cipher) (q j : ℕ) where
