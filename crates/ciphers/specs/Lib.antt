@@ -7,3 +7,6 @@ pub mod Keys
 pub mod Rfc4493
 pub mod Tagging
 pub mod Rfc5297
+pub mod Aeads
+pub mod Covers
+pub mod Sivs

@@ -2,8 +2,9 @@
 use crate::aes::Aes128;
 use crate::cmac::Cmac;
 
-mod counter;
+mod aead;
 mod s2v;
+mod sealing;
 mod unmask;
 
 // A key made ready: its first half for S2V, its second for the counter mode.

@@ -8,8 +8,8 @@ ghost use Rattle.ciphers.specs.Rfc4493.{cmac};
 ghost use Rattle.ciphers.specs.Rfc5297.{lastly, xorEnd, masked};
 ghost use Rattle.ciphers.specs.Tagging.{macKey};
 
-use super::counter::mask;
-use super::counter::stream_block;
+use crate::ctr::mask;
+use crate::ctr::stream_block;
 use super::s2v::end_tag;
 use super::s2v::short_tag;
 use crate::aes::Aes128;

@@ -9,7 +9,7 @@ use Rattle.ciphers.specs.Fips197.{cipher}
 use Rattle.ciphers.specs.Keys.{aesKey}
 use Rattle.ciphers.specs.Rfc5297.{masked, maskedFrom}
 use Rattle.ciphers.proofs.Masking.{mask-step, take-parts}
-use Rattle.ciphers.proofs.siv.counter.mask.Needs as need
+use Rattle.ciphers.proofs.ctr.mask.Needs as need
 
 pub loop-j-holds : need.loop-j-holds
 unfolding maskedFrom

@@ -6,7 +6,7 @@ ghost use lib.ListN.{length, take, drop};
 ghost use Rattle.ciphers.specs.Fips197.{cipher};
 ghost use Rattle.ciphers.specs.Keys.{aesKey};
 ghost use Rattle.ciphers.specs.Bytes.{xors};
-ghost use Rattle.ciphers.specs.Rfc5297.{counter, maskedFrom, masked, Masks-twice};
+ghost use Rattle.ciphers.specs.Rfc5297.{counter, masked, Masks-twice};
 
 use crate::aes::Aes128;
 use crate::blocks::block_of;
@@ -14,7 +14,7 @@ use crate::blocks::front;
 use crate::blocks::xor;
 
 // Block j of the key stream.
-pub(super) fn stream_block(aes: &Aes128, q: u128, j: usize) -> [u8; 16]
+pub(crate) fn stream_block(aes: &Aes128, q: u128, j: usize) -> [u8; 16]
     ensures { λ r. ⌜ r ≡ cipher (aesKey (now (aes .entry))) (counter q j) ⌝ }
 {
     aes.encrypt(block_of(q.wrapping_add(j as u128)))
@@ -40,7 +40,7 @@ fn mask_rest(stream: [u8; 16], text: &[u8], at: usize, out: &mut [u8])
 }
 
 // Masks `text` into the front of `out`, whose bytes past the text stay. Masking twice gives the text back.
-pub(super) fn mask(aes: &Aes128, q: u128, text: &[u8], out: &mut [u8])
+pub(crate) fn mask(aes: &Aes128, q: u128, text: &[u8], out: &mut [u8])
     requires { ⌜ length (now text) ≤ length (now out) ⌝ }
     ensures { λ _. ⌜ now (out .exit) ≡ masked (cipher (aesKey (now (aes .entry)))) q (now (text .entry)) ++ drop (length (now (text .entry))) (now (out .entry)) ⌝ }
 {

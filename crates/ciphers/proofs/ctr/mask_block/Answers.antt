@@ -6,7 +6,7 @@ use native.Mathlib.Omega.{arith}
 use Rattle.std.proofs.shelf.Lists.{take-rest}
 use Rattle.ciphers.specs.Bytes.{xors}
 use Rattle.ciphers.proofs.Masking.{written}
-use Rattle.ciphers.proofs.siv.counter.mask_block.Needs as need
+use Rattle.ciphers.proofs.ctr.mask_block.Needs as need
 
 pub returns : need.returns
 returns c =

@@ -8,7 +8,7 @@ use borrow.Author.Needs.{needs}
 use Rattle.std.proofs.shelf.Lists.{take-rest, take-append-drop}
 use Rattle.ciphers.specs.Bytes.{xors}
 use Rattle.ciphers.proofs.Masking.{rest-more}
-use Rattle.ciphers.proofs.siv.counter.mask_rest.Needs as need
+use Rattle.ciphers.proofs.ctr.mask_rest.Needs as need
 
 pub loop-i-holds : need.loop-i-holds
 loop-i-holds c =
