@@ -90,7 +90,7 @@ loaded b w x y z h p q u v = four _ _ _ _ _ _ _ _ p q u v ∙ sym (fill-by-all (
 pub stored : (w a b c d : List ℕ)
     → a ≡ wordBytes (getD w 0 0) → b ≡ wordBytes (getD w 1 0) → c ≡ wordBytes (getD w 2 0) → d ≡ wordBytes (getD w 3 0)
     → (getD a 0 0 ∷ getD a 1 0 ∷ getD a 2 0 ∷ getD a 3 0 ∷ getD b 0 0 ∷ getD b 1 0 ∷ getD b 2 0 ∷ getD b 3 0 ∷
-       getD c 0 0 ∷ getD c 1 0 ∷ getD c 2 0 ∷ getD c 3 0 ∷ getD d 0 0 ∷ getD d 1 0 ∷ getD d 2 0 ∷ getD d 3 0 ∷ []) ≡ stateOf w
+    getD c 0 0 ∷ getD c 1 0 ∷ getD c 2 0 ∷ getD c 3 0 ∷ getD d 0 0 ∷ getD d 1 0 ∷ getD d 2 0 ∷ getD d 3 0 ∷ []) ≡ stateOf w
 unfolding stateOf
 stored w a b c d p q u v =
     let one : List ℕ → List ℕ = λ l. getD l 0 0 ∷ getD l 1 0 ∷ getD l 2 0 ∷ getD l 3 0 ∷ [] in

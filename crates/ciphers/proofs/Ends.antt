@@ -31,8 +31,8 @@ xorEnd-append a m d long =
     let k = length m - 16 in
     let at : length (a ++ m) - 16 ≡ length a + k = omega (arith, length-append a m) in
     let head : take (length a + k) (a ++ m) ≡ a ++ take k m =
-        take-parts (length a) k (a ++ m) ∙
-        (ap (λ (l : List ℕ). l ++ take k (drop (length a) (a ++ m))) (take-at a m (length a) refl) ∙ ap (λ (l : List ℕ). a ++ take k l) (drop-at a m (length a) refl)) in
+    take-parts (length a) k (a ++ m) ∙
+    (ap (λ (l : List ℕ). l ++ take k (drop (length a) (a ++ m))) (take-at a m (length a) refl) ∙ ap (λ (l : List ℕ). a ++ take k l) (drop-at a m (length a) refl)) in
     let tail : drop (length a + k) (a ++ m) ≡ drop k m = sym (drop-drop k (length a) (a ++ m)) ∙ ap (drop k) (drop-at a m (length a) refl) in
     ap (λ (n : ℕ). take n (a ++ m) ++ xors (drop n (a ++ m)) d) at ∙
     (ap (λ (l : List ℕ). l ++ xors (drop (length a + k) (a ++ m)) d) head ∙
@@ -63,8 +63,8 @@ tail-tag key E q k text tail d p long before here =
     let n = maskedFrom E q at (drop at text) in
     let place : 0 + length (take at text) ≡ at = zero-add (length (take at text)) ∙ length-take-le at text (omega arith) in
     let parts : masked E q text ≡ m ++ n =
-        ap (masked E q) (sym (take-append-drop at text)) ∙
-        (masked-append E q 0 (take at text) (drop at text) ∙ ap (λ (i : ℕ). m ++ maskedFrom E q i (drop at text)) place) in
+    ap (masked E q) (sym (take-append-drop at text)) ∙
+    (masked-append E q 0 (take at text) (drop at text) ∙ ap (λ (i : ℕ). m ++ maskedFrom E q i (drop at text)) place) in
     let second : tail ≡ n = here ∙ masked-later E q k (drop at text) in
     let enough : 16 ≤ length n = omega (arith, length-masked E q at (drop at text), length-drop at text) in
     ap (λ (s : Progress). tagOf (absorbed s (xorEnd tail d))) before ∙

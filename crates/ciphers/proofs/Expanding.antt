@@ -50,7 +50,7 @@ next-is ws i low high =
     let some : length (take i ws) ≡ i = length-take-le i ws high in
     let len : length v ≡ i = length-map (take i ws) wordBytes ∙ some in
     let at : (k : ℕ) → k < i → getD v k [] ≡ wordBytes (getD ws k 0) =
-        λ k lt. getD-map wordBytes (take i ws) k 0 [] (omega arith) ∙ ap wordBytes (getD-take i ws k 0 lt) in
+    λ k lt. getD-map wordBytes (take i ws) k 0 [] (omega arith) ∙ ap wordBytes (getD-take i ws k 0 lt) in
     ap (λ (n : ℕ). xors (getD v (n - 4) []) (added n (getD v (n - 1) []))) len ∙
     (ap (λ (t : List ℕ). xors t (added i (getD v (i - 1) []))) (at (i - 4) (omega arith)) ∙
     ap (λ (t : List ℕ). xors (wordBytes (getD ws (i - 4) 0)) (added i t)) (at (i - 1) (omega arith)))
@@ -67,7 +67,7 @@ pub grown : (first : List (List ℕ)) (w : List ℕ) (i t : ℕ) → 4 ≤ i →
 grown first w i t low h before temp =
     let y = bitXor (getD w (i - 4) 0) t in
     let word : wordBytes y ≡ nextWord (expand (i - 4) first) =
-        xor-of (getD w (i - 4) 0) t _ _ refl temp ∙ (sym (next-is w i low (omega arith)) ∙ ap nextWord before) in
+    xor-of (getD w (i - 4) 0) t _ _ refl temp ∙ (sym (next-is w i low (omega arith)) ∙ ap nextWord before) in
     ap (map wordBytes) (take-more-set w i y h) ∙
     (map-push wordBytes (take i w) y ∙
     (ap (λ (l : List (List ℕ)). l ++ (wordBytes y ∷ [])) before ∙
@@ -78,7 +78,7 @@ pub key-kept : (w : List ℕ) (i y : ℕ) → 4 ≤ i → stateOf (set w i y) �
 unfolding stateOf
 key-kept w i y low =
     let at : (k : ℕ) → k < 4 → wordBytes (getD (set w i y) k 0) ≡ wordBytes (getD w k 0) =
-        λ k lt. let ne : k ≢ i = omega arith in ap wordBytes (getD-set-other w i k y 0 ne) in
+    λ k lt. let ne : k ≢ i = omega arith in ap wordBytes (getD-set-other w i k y 0 ne) in
     four _ _ _ _ _ _ _ _ (at 0 (omega arith)) (at 1 (omega arith)) (at 2 (omega arith)) (at 3 (omega arith))
 
 pub words-first : (ws : List ℕ) → wordBytes (getD ws 0 0) ∷ wordBytes (getD ws 1 0) ∷ wordBytes (getD ws 2 0) ∷ wordBytes (getD ws 3 0) ∷ [] ≡ expand 0 (keyWords (stateOf ws))

@@ -55,7 +55,7 @@ module _ (E : Cipher) (q : ℕ) where
       let inside : k < length s = omega arith in
       let next : suc (16 * j + k) ≡ 16 * j + (k + 1) = omega arith in
       let here : keyByte E q (16 * j + k) ≡ getD s k 0 =
-          ap (λ (n : ℕ). getD (E (counter q n)) ((16 * j + k) % 16) 0) block ∙ (ap (λ (n : ℕ). getD (E (counter q j)) n 0) place ∙ ap (λ (l : List ℕ). getD l k 0) (sym e)) in
+      ap (λ (n : ℕ). getD (E (counter q n)) ((16 * j + k) % 16) 0) block ∙ (ap (λ (n : ℕ). getD (E (counter q j)) n 0) place ∙ ap (λ (l : List ℕ). getD l k 0) (sym e)) in
       ap (λ (x : ℕ). bitXor b x ∷ maskedFrom E q (suc (16 * j + k)) m) here ∙
       (ap (λ (n : ℕ). bitXor b (getD s k 0) ∷ maskedFrom E q n m) next ∙
       (ap (λ (l : List ℕ). bitXor b (getD s k 0) ∷ l) (in-block j (k + 1) m s e full (omega arith)) ∙
@@ -83,10 +83,10 @@ module _ (E : Cipher) (q : ℕ) where
       let len : length m ≡ at = length-masked 0 (take at text) ∙ length-take-le at text inside in
       let head : take at out ≡ m = ap (take at) before ∙ take-at m (drop at o) at len in
       let rest : drop e out ≡ drop e o =
-          ap (λ (n : ℕ). drop n out) end ∙
-          (sym (drop-drop (length b) at out) ∙
-          (ap (drop (length b)) (ap (drop at) before ∙ drop-at m (drop at o) at len) ∙
-          (drop-drop (length b) at o ∙ ap (λ (n : ℕ). drop n o) (sym end)))) in
+      ap (λ (n : ℕ). drop n out) end ∙
+      (sym (drop-drop (length b) at out) ∙
+      (ap (drop (length b)) (ap (drop at) before ∙ drop-at m (drop at o) at len) ∙
+      (drop-drop (length b) at o ∙ ap (λ (n : ℕ). drop n o) (sym end)))) in
       let more = masked-next text s b j at e is inside block full few parts in
       ap (λ (l : List ℕ). l ++ (xors b s ++ drop e out)) head ∙
       (ap (λ (l : List ℕ). m ++ (xors b s ++ l)) rest ∙
@@ -144,12 +144,12 @@ rest-more o t s at i low ht ho hs =
     let back : at + n ≡ i = omega arith in
     let la : length (take at o) ≡ at = length-take-le at o (omega arith) in
     let lx : length (xors (take n u) s) ≡ n =
-        xors-length (take n u) s (subst (λ (k : ℕ). k ≤ length s) (sym (length-take-le n u (omega arith))) (omega arith)) ∙ length-take-le n u (omega arith) in
+    xors-length (take n u) s (subst (λ (k : ℕ). k ≤ length s) (sym (length-take-le n u (omega arith))) (omega arith)) ∙ length-take-le n u (omega arith) in
     let len : length (take at o ++ xors (take n u) s) ≡ i = length-append (take at o) (xors (take n u) s) ∙ omega arith in
     let step : i + 1 - at ≡ n + 1 = omega arith in
     let byte : getD u n 0 ≡ getD t i 0 = getD-drop at t n 0 ∙ ap (λ (k : ℕ). getD t k 0) back in
     let more : xors (take (i + 1 - at) u) s ≡ xors (take n u) s ++ (v ∷ []) =
-        ap (λ (k : ℕ). xors (take k u) s) step ∙ (xors-more u s n (omega arith) (omega arith) ∙ ap (λ (x : ℕ). xors (take n u) s ++ (bitXor x (getD s n 0) ∷ [])) byte) in
+    ap (λ (k : ℕ). xors (take k u) s) step ∙ (xors-more u s n (omega arith) (omega arith) ∙ ap (λ (x : ℕ). xors (take n u) s ++ (bitXor x (getD s n 0) ∷ [])) byte) in
     ap (λ (l : List ℕ). set (take at o ++ (xors (take n u) s ++ l)) i v) (drop-more o i 0 ho) ∙
     (ap (λ (l : List ℕ). set l i v) (sym (append-assoc (take at o) (xors (take n u) s) (getD o i 0 ∷ drop (i + 1) o))) ∙
     (set-at (take at o ++ xors (take n u) s) (getD o i 0) (drop (i + 1) o) v i len ∙

@@ -29,14 +29,15 @@ size-refused false e h = let z : _≡_ {A = ℕ} 0 1 = cc in absurd (omega arith
 pub encrypt-refused : (opens : Meaning) (overhead : ℕ) (plain text before sealed : List ℕ) (r : Result ℕ Fault) (e : Fault) → r ≡ Err e
     → _≡_ {A = Tested} (Err e) (cond (outOfBounds overhead (length plain) (length text) (length before)) (Err (fault WrongSize Aead)) (Ok tt))
     → Encrypted opens overhead plain text before before r ×
-      (r ≡ sealingAnswer (outOfBounds overhead (length plain) (length text) (length before)) sealed) ×
-      (before ≡ sealedInto (outOfBounds overhead (length plain) (length text) (length before)) sealed before)
+    (r ≡ sealingAnswer (outOfBounds overhead (length plain) (length text) (length before)) sealed) ×
+    (before ≡ sealedInto (outOfBounds overhead (length plain) (length text) (length before)) sealed before)
 encrypt-refused opens overhead plain text before sealed r e is h =
     let refused = outOfBounds overhead (length plain) (length text) (length before) in
-    let both = size-refused refused e h in
-    ( subst (λ (x : Result ℕ Fault). Encrypted opens overhead plain text before before x) (sym is) (both .0, both .1, refl)
-    , is ∙ (ap (λ (x : Fault). Err x) (both .1) ∙ sym (cond-true refused _ _ (both .0)))
-    , sym (cond-true refused _ _ (both .0)) )
+    let both = size-refused refused e h in (
+      subst (λ (x : Result ℕ Fault). Encrypted opens overhead plain text before before x) (sym is) (both .0, both .1, refl),
+      is ∙ (ap (λ (x : Fault). Err x) (both .1) ∙ sym (cond-true refused _ _ (both .0))),
+      sym (cond-true refused _ _ (both .0)),
+    )
 
 abbrev opening : Bool → Bool → Tested
 opening opens short = cond opens (cond short (Err (fault WrongSize Aead)) (Ok tt)) (Err (fault DoesNotOpen Aead))

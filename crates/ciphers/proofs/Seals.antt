@@ -39,7 +39,7 @@ seal-written E q v h o plain ys hv lv long wrote =
     let none : drop (16 + (length xs - 16)) o ≡ [] = drop-all (16 + (length xs - 16)) o (omega arith) in
     let rest : take (length xs - 16) (drop 16 xs) ≡ drop 16 o = take-rest xs 16 ∙ drop-at h (drop 16 o) 16 lh in
     let y : ys ≡ masked E q plain ++ drop (16 + n) o =
-        wrote ∙ (ap (λ (l : List ℕ). masked E q plain ++ drop n l) rest ∙ ap (λ (l : List ℕ). masked E q plain ++ l) (drop-drop n 16 o)) in
+    wrote ∙ (ap (λ (l : List ℕ). masked E q plain ++ drop n l) rest ∙ ap (λ (l : List ℕ). masked E q plain ++ l) (drop-drop n 16 o)) in
     head-written 16 (length xs - 16) h o ys lh ∙
     (ap (λ (l : List ℕ). h ++ (ys ++ l)) none ∙
     (ap (λ (l : List ℕ). h ++ l) (append-nil ys ∙ y) ∙

@@ -16,5 +16,5 @@ covered-opens text plain few =
     let sealed = covered text plain in
     let same : number (wordBytes (length text)) ≡ length text = omega arith in
     let agrees : agree sealed text ≡ true =
-        cond-false (ltb (length sealed) 4) _ _ (le-ltb (length sealed) 4 (omega arith)) ∙ eq-eqb (number (wordBytes (length text))) (length text) same in
+    cond-false (ltb (length sealed) 4) _ _ (le-ltb (length sealed) 4 (omega arith)) ∙ eq-eqb (number (wordBytes (length text))) (length text) same in
     cond-true (agree sealed text) _ _ agrees

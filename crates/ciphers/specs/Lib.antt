@@ -10,3 +10,4 @@ pub mod Rfc5297
 pub mod Aeads
 pub mod Covers
 pub mod Sivs
+pub mod Sources

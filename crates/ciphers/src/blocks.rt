@@ -33,7 +33,11 @@ pub(crate) fn block_of(n: u128) -> [u8; 16]
 fn shift(n: u128) -> u128
     ensures { λ r. ⌜ r ≡ shifted n ⌝ }
 {
-    if n < 0x8000_0000_0000_0000_0000_0000_0000_0000 { n << 1 } else { (n << 1) ^ 0x87 }
+    if n < 0x8000_0000_0000_0000_0000_0000_0000_0000 {
+        n << 1
+    } else {
+        (n << 1) ^ 0x87
+    }
 }
 
 // The product with x in the field of 2^128 elements.

@@ -5,7 +5,6 @@ ghost use lib.ListN.{length};
 ghost use Rattle.ciphers.specs.Fips197.{cipher};
 ghost use Rattle.ciphers.specs.Keys.{aesKey};
 ghost use Rattle.ciphers.specs.Rfc4493.{subkey1};
-
 use crate::aes::Aes128;
 
 mod pieces;

@@ -5,7 +5,6 @@ ghost use Prim.Native.Nat.{_+_, _≤_};
 ghost use lib.ListN.{length, drop};
 ghost use Rattle.ciphers.specs.Aeads.{Encrypted, outOfBounds, sealingAnswer, sealedInto};
 ghost use Rattle.ciphers.specs.Covers.{covered, uncovered, agree};
-
 use crate::aead::Aead;
 use crate::aead::check_opening;
 use crate::aead::check_sizes;
@@ -38,6 +37,7 @@ fn agrees(sealed: &[u8], text: &[u8]) -> bool
 
 pub impl Aead for PlainCover as PlainCoverAead {
     ghost opens = { λ _. uncovered };
+
     ghost longer = { 4 };
 
     const OVERHEAD: usize = 4;
@@ -46,7 +46,12 @@ pub impl Aead for PlainCover as PlainCoverAead {
         4
     }
 
-    fn encrypt(&self, plaintext: &[u8], additional_data: &[u8], out: &mut [u8]) -> Result<usize, Fault>
+    fn encrypt(
+        &self,
+        plaintext: &[u8],
+        additional_data: &[u8],
+        out: &mut [u8],
+    ) -> Result<usize, Fault>
         ensures sealed { λ r. ⌜ Encrypted uncovered 4 (now (plaintext .entry)) (now («additional_data» .entry)) (now (out .entry)) (now (out .exit)) r ⌝ }
         ensures answer { λ r. ⌜ r ≡ sealingAnswer (outOfBounds 4 (length (now (plaintext .entry))) (length (now («additional_data» .entry))) (length (now (out .entry)))) (covered (now («additional_data» .entry)) (now (plaintext .entry))) ⌝ }
         ensures output { λ _. ⌜ now (out .exit) ≡ sealedInto (outOfBounds 4 (length (now (plaintext .entry))) (length (now («additional_data» .entry))) (length (now (out .entry)))) (covered (now («additional_data» .entry)) (now (plaintext .entry))) (now (out .entry)) ⌝ }
@@ -56,7 +61,12 @@ pub impl Aead for PlainCover as PlainCoverAead {
         Ok(4 + plaintext.len())
     }
 
-    fn decrypt(&self, ciphertext: &[u8], additional_data: &[u8], out: &mut [u8]) -> Result<usize, Fault> {
+    fn decrypt(
+        &self,
+        ciphertext: &[u8],
+        additional_data: &[u8],
+        out: &mut [u8],
+    ) -> Result<usize, Fault> {
         let n = ciphertext.len().saturating_sub(4);
         check_opening(agrees(ciphertext, additional_data), n, out.len())?;
         out[0..n].copy_from_slice(&ciphertext[4..]);

@@ -2,20 +2,24 @@
 ghost use mathlib.Core.Path.{_≡_};
 ghost use mathlib.Core.List.{_++_};
 ghost use Prim.Native.Nat.{_+_, _-_, _/_, _%_, _<_, _≤_};
+ghost use lib.Dec.{ltb};
 ghost use lib.ListN.{length, take, drop};
+ghost use Rattle.ciphers.specs.Aeads.{sealingAnswer, sealedInto};
 ghost use Rattle.ciphers.specs.Fips197.{cipher};
 ghost use Rattle.ciphers.specs.Keys.{aesKey};
 ghost use Rattle.ciphers.specs.Bytes.{xors};
-ghost use Rattle.ciphers.specs.Rfc5297.{counter, masked, Masks-twice};
-
+ghost use Rattle.ciphers.specs.Rfc5297.{counter as counterBlock, masked, Masks-twice};
 use crate::aes::Aes128;
 use crate::blocks::block_of;
 use crate::blocks::front;
 use crate::blocks::xor;
+use crate::fault::Fault;
+use crate::fault::Layer;
+use crate::fault::Refusal;
 
 // Block j of the key stream.
 pub(crate) fn stream_block(aes: &Aes128, q: u128, j: usize) -> [u8; 16]
-    ensures { λ r. ⌜ r ≡ cipher (aesKey (now (aes .entry))) (counter q j) ⌝ }
+    ensures { λ r. ⌜ r ≡ cipher (aesKey (now (aes .entry))) (counterBlock q j) ⌝ }
 {
     aes.encrypt(block_of(q.wrapping_add(j as u128)))
 }
@@ -50,3 +54,20 @@ pub(crate) fn mask(aes: &Aes128, q: u128, text: &[u8], out: &mut [u8])
     }
     mask_rest(stream_block(aes, q, whole), text, 16 * whole, out);
 }
+
+// Counter mode of a text of any length, from a counter on. The same call undoes it.
+pub fn apply(aes: &Aes128, counter: u128, text: &[u8], out: &mut [u8]) -> Result<usize, Fault>
+    ensures answer { λ r. ⌜ r ≡ sealingAnswer (ltb (length (now (out .entry))) (length (now (text .entry)))) (masked (cipher (aesKey (now (aes .entry)))) counter (now (text .entry))) ⌝ }
+    ensures output { λ _. ⌜ now (out .exit) ≡ sealedInto (ltb (length (now (out .entry))) (length (now (text .entry)))) (masked (cipher (aesKey (now (aes .entry)))) counter (now (text .entry))) (now (out .entry)) ⌝ }
+{
+    if out.len() < text.len() {
+        return Err(Fault::new(Refusal::WrongSize, Layer::Aead));
+    }
+    mask(aes, counter, text, out);
+    Ok(text.len())
+}
+
+// Counter mode twice from one counter is no change, for every cipher, counter and text.
+pub fn masks_twice()
+    ensures { λ _. ⌜ Masks-twice ⌝ }
+{}

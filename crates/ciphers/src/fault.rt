@@ -2,7 +2,6 @@
 // It is made once, where a call refuses, and climbs by `?` with all four parts intact.
 ghost use mathlib.Core.Path.{_≡_};
 ghost use Rattle.ciphers.specs.Faults.{numberOf, letterOf, fault, placed, reasoned};
-
 use std::fmt;
 
 // Why a call refused. `number` gives each its number.
@@ -145,21 +144,36 @@ impl Fault {
     pub fn new(refusal: Refusal, layer: Layer) -> Fault
         ensures { λ r. ⌜ r ≡ fault refusal layer ⌝ }
     {
-        Fault { refusal, layer, place: 0, reason: 0 }
+        Fault {
+            refusal,
+            layer,
+            place: 0,
+            reason: 0,
+        }
     }
 
     // The same fault, stamped with the place where it arose.
     pub fn at(self, place: usize) -> Fault
         ensures { λ r. ⌜ r ≡ placed place self ⌝ }
     {
-        Fault { refusal: self.refusal, layer: self.layer, place, reason: self.reason }
+        Fault {
+            refusal: self.refusal,
+            layer: self.layer,
+            place,
+            reason: self.reason,
+        }
     }
 
     // The same fault with a key manager's reason.
     pub fn because(self, reason: u32) -> Fault
         ensures { λ r. ⌜ r ≡ reasoned reason self ⌝ }
     {
-        Fault { refusal: self.refusal, layer: self.layer, place: self.place, reason }
+        Fault {
+            refusal: self.refusal,
+            layer: self.layer,
+            place: self.place,
+            reason,
+        }
     }
 
     pub fn number(&self) -> u8
@@ -184,7 +198,10 @@ pub impl fmt::Display for Fault as FaultDisplay {
         let words = self.refusal.words();
         if let Refusal::KeyManagerReason = self.refusal {
             let reason = self.reason;
-            return write!(f, "refused {number} {letter} at {place}: {words}, reason {reason}");
+            return write!(
+                f,
+                "refused {number} {letter} at {place}: {words}, reason {reason}"
+            );
         }
         write!(f, "refused {number} {letter} at {place}: {words}")
     }

@@ -5,7 +5,6 @@ ghost use Prim.Native.Nat.{_<_};
 ghost use Rattle.ciphers.specs.Bytes.{wordBytes};
 ghost use Rattle.ciphers.specs.Fips197.{stateOf, roundKey, cipherBy, cipher};
 ghost use Rattle.ciphers.specs.Keys.{aesKey};
-
 use super::Aes128;
 use super::rounds::add_round_key;
 use super::rounds::full_round;
@@ -18,7 +17,9 @@ impl Aes128 {
     pub fn new(key: [u8; 16]) -> Aes128
         ensures { λ r. ⌜ aesKey r ≡ key ⌝ }
     {
-        Aes128 { words: expansion(key) }
+        Aes128 {
+            words: expansion(key),
+        }
     }
 
     // The block that AES-128 makes of `block`.
@@ -33,7 +34,12 @@ impl Aes128 {
         ensures { λ r. ⌜ stateOf r ≡ roundKey (map wordBytes (now (self .entry) .words)) i ⌝ }
     {
         let at = 4 * i;
-        [self.words[at], self.words[at + 1], self.words[at + 2], self.words[at + 3]]
+        [
+            self.words[at],
+            self.words[at + 1],
+            self.words[at + 2],
+            self.words[at + 3],
+        ]
     }
 
     fn rounds(&self, text: [u32; 4]) -> [u32; 4]

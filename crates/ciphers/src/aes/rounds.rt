@@ -6,7 +6,6 @@ ghost use lib.ListN.{getD};
 ghost use Rattle.ciphers.specs.Bytes.{wordBytes, xors};
 ghost use Rattle.ciphers.specs.Gf256.{sBox};
 ghost use Rattle.ciphers.specs.Fips197.{stateOf, mixColumn, fullRound, lastRound, addRoundKey};
-
 use super::tables::row0;
 use super::tables::row1;
 use super::tables::row2;
@@ -88,6 +87,21 @@ pub(super) fn store(w: [u32; 4]) -> [u8; 16]
     let c = w[2].to_be_bytes();
     let d = w[3].to_be_bytes();
     [
-        a[0], a[1], a[2], a[3], b[0], b[1], b[2], b[3], c[0], c[1], c[2], c[3], d[0], d[1], d[2], d[3],
+        a[0],
+        a[1],
+        a[2],
+        a[3],
+        b[0],
+        b[1],
+        b[2],
+        b[3],
+        c[0],
+        c[1],
+        c[2],
+        c[3],
+        d[0],
+        d[1],
+        d[2],
+        d[3],
     ]
 }

@@ -6,7 +6,6 @@ ghost use Prim.Native.Nat.{_-_, _/_, _%_, _<_, _≤_};
 ghost use lib.Dec.{eqb};
 ghost use Rattle.ciphers.specs.Bytes.{wordBytes, xors};
 ghost use Rattle.ciphers.specs.Fips197.{keyExpansion, stateOf, subWord, rotWord, rcon, xPower};
-
 use super::rounds::load;
 use super::rounds::sub_bytes;
 
@@ -34,7 +33,11 @@ fn temp(last: u32, i: usize) -> u32
     requires { ⌜ 4 ≤ i ⌝ ∗ ⌜ i < 44 ⌝ }
     ensures { λ r. ⌜ wordBytes r ≡ cond (eqb (i % 4) 0) (xors (subWord (rotWord (wordBytes last))) (rcon (i / 4))) (wordBytes last) ⌝ }
 {
-    if i % 4 == 0 { turned(last, i / 4 - 1) } else { last }
+    if i % 4 == 0 {
+        turned(last, i / 4 - 1)
+    } else {
+        last
+    }
 }
 
 // All 44 words.

@@ -4,7 +4,6 @@ ghost use mathlib.Core.List.{List, _∷_, []};
 ghost use Prim.Native.Nat.{ℕ, _<_, _≤_};
 ghost use lib.ListN.{length, drop};
 ghost use Rattle.ciphers.specs.Tagging.{progress, absorbed, turnedOver, heldWith};
-
 use super::Running;
 use crate::blocks::front;
 use crate::blocks::xor;

@@ -6,7 +6,6 @@ ghost use lib.ListN.{take};
 ghost use Rattle.ciphers.specs.Fips197.{cipher};
 ghost use Rattle.ciphers.specs.Rfc4493.{lastBlock, cmac};
 ghost use Rattle.ciphers.specs.Tagging.{macKey, progress, begun, absorbed, tagOf, Tags-join};
-
 use super::Cmac;
 use super::Running;
 use crate::aes::Aes128;
@@ -36,7 +35,12 @@ impl Cmac {
     pub fn start(&self) -> Running<'_>
         ensures { λ r. ⌜ progress r ≡ begun (macKey (now (self .entry))) ⌝ }
     {
-        Running { mac: self, x: [0; 16], block: [0; 16], n: 0 }
+        Running {
+            mac: self,
+            x: [0; 16],
+            block: [0; 16],
+            n: 0,
+        }
     }
 
     // M_last, of the n bytes that are left for the last block.
@@ -44,7 +48,11 @@ impl Cmac {
         requires { ⌜ n ≤ 16 ⌝ }
         ensures { λ r. ⌜ r ≡ lastBlock (cipher (macKey (now (self .entry)))) (take n block) ⌝ }
     {
-        if n == 16 { xor(block, self.k1) } else { xor(pad(block, n), double(self.k1)) }
+        if n == 16 {
+            xor(block, self.k1)
+        } else {
+            xor(pad(block, n), double(self.k1))
+        }
     }
 }
 
@@ -62,5 +70,4 @@ impl Running<'_> {
 // The tag of pieces absorbed one after the other is the tag of the pieces joined.
 pub fn tags_join()
     ensures { λ _. ⌜ Tags-join ⌝ }
-{
-}
+{}

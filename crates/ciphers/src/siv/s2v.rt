@@ -7,7 +7,6 @@ ghost use Rattle.ciphers.specs.Fips197.{cipher};
 ghost use Rattle.ciphers.specs.Rfc4493.{cmac, dbl, padded};
 ghost use Rattle.ciphers.specs.Rfc5297.{lastly, xorEnd};
 ghost use Rattle.ciphers.specs.Tagging.{macKey, progress, absorbed, tagOf};
-
 use crate::blocks::double;
 use crate::blocks::front;
 use crate::blocks::pad;

@@ -11,7 +11,6 @@ ghost use Rattle.ciphers.specs.Keys.{aesKey};
 ghost use Rattle.ciphers.specs.Rfc5297.{cleared, sealed as sealedBy, genuine, plainOf, Opens-sealed};
 ghost use Rattle.ciphers.specs.Sivs.{sivKey};
 ghost use Rattle.ciphers.specs.Tagging.{macKey};
-
 use super::Siv;
 use super::s2v::gather;
 use super::s2v::plain_tag;

@@ -7,15 +7,14 @@ ghost use Rattle.ciphers.specs.Keys.{aesKey};
 ghost use Rattle.ciphers.specs.Rfc4493.{cmac};
 ghost use Rattle.ciphers.specs.Rfc5297.{lastly, xorEnd, masked};
 ghost use Rattle.ciphers.specs.Tagging.{macKey};
-
-use crate::ctr::mask;
-use crate::ctr::stream_block;
 use super::s2v::end_tag;
 use super::s2v::short_tag;
 use crate::aes::Aes128;
 use crate::blocks::front;
 use crate::blocks::xor;
 use crate::cmac::Cmac;
+use crate::ctr::mask;
+use crate::ctr::stream_block;
 
 // All whole blocks but the last are unmasked and absorbed one by one; the rest, 16 to 31 bytes, comes after them.
 fn long_tag(mac: &Cmac, ctr: &Aes128, q: u128, d: [u8; 16], text: &[u8]) -> [u8; 16]

@@ -43,7 +43,7 @@ returns c =
     let rest : length (drop at text) ≡ n - at = length-drop at text in
     let all : take n text ≡ text = take-all n text (omega arith) in
     let before : c .loop-j .out ≡ masked E (c .args .q) (take at text) ++ drop at o =
-        c .loop-j .inv ∙ ap (λ (k : ℕ). masked E (c .args .q) (take (16 * k) text) ++ drop (16 * k) o) end in
+    c .loop-j .inv ∙ ap (λ (k : ℕ). masked E (c .args .q) (take (16 * k) text) ++ drop (16 * k) o) end in
     c .mask-rest .ensures ∙
     (mask-step E (c .args .q) text o (c .loop-j .out) (c .stream-block-2 .result) (drop at text) whole at n refl (omega arith) before (c .stream-block-2 .ensures) full (omega arith) (omega arith) (all ∙ sym (take-append-drop at text)) ∙
     ap (λ (t : List ℕ). masked E (c .args .q) t ++ drop n o) all)

@@ -17,7 +17,8 @@ returns-then-more-ge16 c =
     let block = c .hold-block .ensures ∙ ap (heldWith (progress self)) (c .front .ensures) in
     record {
       some = (omega arith, c .if-more-ge16 .taken);
-      after = front-block (progress self) _ more (c .if-more-ge16 .taken) (held ∙ c .if-self-eq0 .taken) block ∙ c .make-room .ensures .after more (c .pre) }
+      after = front-block (progress self) _ more (c .if-more-ge16 .taken) (held ∙ c .if-self-eq0 .taken) block ∙ c .make-room .ensures .after more (c .pre);
+    }
 
 pub returns : need.returns
 unfolding progress
@@ -28,4 +29,5 @@ returns c =
     let room = c .make-room .ensures .room in
     record {
       some = (omega arith, c .pre);
-      after = front-byte (progress self) _ more (c .pre) (omega arith) (c .hold .ensures) ∙ c .make-room .ensures .after more (c .pre) }
+      after = front-byte (progress self) _ more (c .pre) (omega arith) (c .hold .ensures) ∙ c .make-room .ensures .after more (c .pre);
+    }

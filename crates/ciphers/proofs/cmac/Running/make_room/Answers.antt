@@ -14,4 +14,5 @@ returns-then-self-eq16 c =
     let held = length-take-le (self .n) (self .block) (omega arith) in
     record {
       room = omega arith;
-      after = λ m some. ap (λ (p : Progress). absorbed p m) (c .turn .ensures .after) ∙ absorbed-turned (progress self) m (held ∙ c .if-self-eq16 .taken) some }
+      after = λ m some. ap (λ (p : Progress). absorbed p m) (c .turn .ensures .after) ∙ absorbed-turned (progress self) m (held ∙ c .if-self-eq16 .taken) some;
+    }

@@ -38,4 +38,5 @@ returns c =
     record {
       answer = opened-answer (uncovered sealed text) (drop 4 sealed) opens n len (length out) (passed .1);
       output = opened-output (uncovered sealed text) (drop 4 sealed) opens n len out _ (passed .1)
-          (ap (λ (k : ℕ). c .copy-from-slice .last .self ++ drop k out) size ∙ ap (λ (l : List ℕ). l ++ drop n out) copied) }
+          (ap (λ (k : ℕ). c .copy-from-slice .last .self ++ drop k out) size ∙ ap (λ (l : List ℕ). l ++ drop n out) copied);
+    }

@@ -22,4 +22,5 @@ returns c =
     record {
       sealed = sealed-encrypted sealed out (c .cover .last .out) (4 + length plain) n (c .cover .ensures) uncovered 4 plain text fits (omega arith) (covered-opens text plain short);
       answer = sealed-answer sealed out (c .cover .last .out) (4 + length plain) n (c .cover .ensures) _ fits;
-      output = sealed-output sealed out (c .cover .last .out) (4 + length plain) n (c .cover .ensures) _ fits }
+      output = sealed-output sealed out (c .cover .last .out) (4 + length plain) n (c .cover .ensures) _ fits;
+    }

@@ -14,4 +14,4 @@ returns c =
     let p = progress (c .args .running .now) in
     c .finish .ensures .value ∙
     ap tagOf (end-absorbed p _ _ rest (c .args .d) _ _ from (omega arith)
-        (c .absorb .ensures ∙ ap (λ (n : ℕ). absorbed p (take n rest)) start) (c .front .ensures) (c .xor-end .ensures) (c .absorb-2 .ensures))
+    (c .absorb .ensures ∙ ap (λ (n : ℕ). absorbed p (take n rest)) start) (c .front .ensures) (c .xor-end .ensures) (c .absorb-2 .ensures))

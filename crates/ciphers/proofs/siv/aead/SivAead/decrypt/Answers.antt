@@ -42,4 +42,5 @@ returns c =
     record {
       answer = opened-answer (sivOpened (sivKey s) ad z) (plainOf E z) opens n len (length out) (passed .1);
       output = opened-output (sivOpened (sivKey s) ad z) (plainOf E z) opens n len out _ (passed .1)
-          (c .unmask .ensures ∙ ap (λ (k : ℕ). plainOf E z ++ drop k out) (sym (c .saturating-sub-n .ensures))) }
+          (c .unmask .ensures ∙ ap (λ (k : ℕ). plainOf E z ++ drop k out) (sym (c .saturating-sub-n .ensures)));
+    }

@@ -24,7 +24,7 @@ returns-in-Break-check-sizes c =
     let key = sivKey (c .args .self .now) in
     let p = err-from-errBy (c .from-residual .result) (c .from-residual .ensures .1) in
     let all = encrypt-refused (λ z ad. sivOpened key ad z) 16 (c .args .plaintext .now) (c .args .additional-data .now) (c .args .out .now) (sivSealed key (c .args .additional-data .now) (c .args .plaintext .now))
-        (c .from-residual .result) _ (p .1 ∙ ap (λ (f : Fault). Err f) (p .2)) (c .in-Break-check-sizes .ensures tt) in
+    (c .from-residual .result) _ (p .1 ∙ ap (λ (f : Fault). Err f) (p .2)) (c .in-Break-check-sizes .ensures tt) in
     record { sealed = all .0; answer = all .1; output = all .2 }
 
 pub returns : need.returns
@@ -37,11 +37,12 @@ returns c =
     let fits : outOfBounds 16 (length plain) (length text) (length out) ≡ false = search needs in
     let z = sivSealed (sivKey s) text plain in
     let len : n ≡ length z =
-        sym (ap length (siv-sealed s text plain) ∙ sealed-length (cipher (macKey (s .mac))) (cipher (aesKey (s .ctr))) (cipher-length (s .mac .aes)) text plain) in
+    sym (ap length (siv-sealed s text plain) ∙ sealed-length (cipher (macKey (s .mac))) (cipher (aesKey (s .ctr))) (cipher-length (s .mac .aes)) text plain) in
     let wrote = c .seal .ensures ∙ ap (λ (l : List ℕ). l ++ drop n out) (sym (siv-sealed s text plain)) in
     let after = c .seal .last .out in
     let opens : Meaning = λ c' ad. sivOpened (sivKey s) ad c' in
     record {
       sealed = sealed-encrypted z out after n len wrote opens 16 plain text fits (omega arith) (siv-opens s text plain);
       answer = sealed-answer z out after n len wrote _ fits;
-      output = sealed-output z out after n len wrote _ fits }
+      output = sealed-output z out after n len wrote _ fits;
+    }
