@@ -43,7 +43,7 @@ pub impl Aead for PlainCover as PlainCoverAead {
     const OVERHEAD: usize = 4;
 
     fn expansion() -> usize {
-        4
+        Self::OVERHEAD
     }
 
     fn encrypt(
@@ -56,7 +56,7 @@ pub impl Aead for PlainCover as PlainCoverAead {
         ensures answer { λ r. ⌜ r ≡ sealingAnswer (outOfBounds 4 (length (now (plaintext .entry))) (length (now («additional_data» .entry))) (length (now (out .entry)))) (covered (now («additional_data» .entry)) (now (plaintext .entry))) ⌝ }
         ensures output { λ _. ⌜ now (out .exit) ≡ sealedInto (outOfBounds 4 (length (now (plaintext .entry))) (length (now («additional_data» .entry))) (length (now (out .entry)))) (covered (now («additional_data» .entry)) (now (plaintext .entry))) (now (out .entry)) ⌝ }
     {
-        check_sizes(4, plaintext.len(), additional_data.len(), out.len())?;
+        check_sizes(Self::OVERHEAD, plaintext.len(), additional_data.len(), out.len())?;
         cover(plaintext, additional_data, out);
         Ok(4 + plaintext.len())
     }

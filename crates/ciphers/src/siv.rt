@@ -2,6 +2,8 @@
 use crate::aes::Aes128;
 use crate::cmac::Cmac;
 
+pub use self::aead::SivAead;
+
 mod aead;
 mod s2v;
 mod sealing;
