@@ -24,7 +24,8 @@ round-key ws i full h =
 
 pub after-more : (w : List (List ℕ)) (s : List ℕ) (n : ℕ) → after w s (n + 1) ≡ fullRound (after w s n) (roundKey w (n + 1))
 unfolding after
-after-more w s n = rw add-one
+after-more w s n =
+    ap (after w s) (add-one n) ∙ ap (λ (k : ℕ). fullRound (after w s n) (roundKey w k)) (sym (add-one n))
 
 pub after-none : (w : List (List ℕ)) (s : List ℕ) → after w s 0 ≡ s
 unfolding after
