@@ -56,7 +56,12 @@ pub impl Aead for PlainCover as PlainCoverAead {
         ensures answer { λ r. ⌜ r ≡ sealingAnswer (outOfBounds 4 (length (now (plaintext .entry))) (length (now («additional_data» .entry))) (length (now (out .entry)))) (covered (now («additional_data» .entry)) (now (plaintext .entry))) ⌝ }
         ensures output { λ _. ⌜ now (out .exit) ≡ sealedInto (outOfBounds 4 (length (now (plaintext .entry))) (length (now («additional_data» .entry))) (length (now (out .entry)))) (covered (now («additional_data» .entry)) (now (plaintext .entry))) (now (out .entry)) ⌝ }
     {
-        check_sizes(Self::OVERHEAD, plaintext.len(), additional_data.len(), out.len())?;
+        check_sizes(
+            Self::OVERHEAD,
+            plaintext.len(),
+            additional_data.len(),
+            out.len(),
+        )?;
         cover(plaintext, additional_data, out);
         Ok(4 + plaintext.len())
     }

@@ -1,8 +1,7 @@
 // SIV over AES-128 (RFC 5297), with a key of 32 bytes and one component of associated data.
+pub use self::aead::SivAead;
 use crate::aes::Aes128;
 use crate::cmac::Cmac;
-
-pub use self::aead::SivAead;
 
 mod aead;
 mod s2v;

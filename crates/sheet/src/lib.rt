@@ -5,7 +5,6 @@ ghost use Prim.Native.Nat.{_<_};
 ghost use Rattle.std.specs.Of.String.{string-bytes};
 ghost use Rattle.std.specs.Vec.{made};
 ghost use Rattle.sheet.specs.Hex.{digitCode, byteCodes, hexCodes, Tells-bytes};
-
 use std::alloc::AllocError;
 use std::alloc::Global;
 
@@ -14,7 +13,11 @@ fn digit(n: u8) -> char
     ensures code { λ r. ⌜ r ≡ digitCode n ⌝ }
     ensures ascii { λ r. ⌜ r < 128 ⌝ }
 {
-    if n < 10 { (b'0' + n) as char } else { (b'a' + (n - 10)) as char }
+    if n < 10 {
+        (b'0' + n) as char
+    } else {
+        (b'a' + (n - 10)) as char
+    }
 }
 
 fn push_digit(text: &mut String, n: u8) -> Result<(), AllocError>
@@ -47,5 +50,4 @@ pub fn hex(heap: Global, bytes: &[u8]) -> Result<String, AllocError>
 // Different bytes are shown differently.
 pub fn tells_bytes()
     ensures { λ _. ⌜ Tells-bytes ⌝ }
-{
-}
+{}

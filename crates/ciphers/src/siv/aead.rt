@@ -31,7 +31,12 @@ pub impl Aead for Siv as SivAead {
         ensures answer { λ r. ⌜ r ≡ sealingAnswer (outOfBounds 16 (length (now (plaintext .entry))) (length (now («additional_data» .entry))) (length (now (out .entry)))) (sivSealed (sivKey (now (self .entry))) (now («additional_data» .entry)) (now (plaintext .entry))) ⌝ }
         ensures output { λ _. ⌜ now (out .exit) ≡ sealedInto (outOfBounds 16 (length (now (plaintext .entry))) (length (now («additional_data» .entry))) (length (now (out .entry)))) (sivSealed (sivKey (now (self .entry))) (now («additional_data» .entry)) (now (plaintext .entry))) (now (out .entry)) ⌝ }
     {
-        check_sizes(Self::OVERHEAD, plaintext.len(), additional_data.len(), out.len())?;
+        check_sizes(
+            Self::OVERHEAD,
+            plaintext.len(),
+            additional_data.len(),
+            out.len(),
+        )?;
         self.seal(additional_data, plaintext, out);
         Ok(16 + plaintext.len())
     }
