@@ -61,35 +61,51 @@ fn blocks(heap: Global, words: &mut SplitWhitespace) -> Result<Vec<u8>, AnyError
     Ok(v)
 }
 
+fn aes(heap: Global, words: &mut SplitWhitespace) -> Result<Call, AnyError> {
+    let key = array(heap, words)?;
+    let plaintext = blocks(heap, words)?;
+    let ciphertext = blocks(heap, words)?;
+    Ok(Call::Aes { key, plaintext, ciphertext })
+}
+
+fn ctr(heap: Global, words: &mut SplitWhitespace) -> Result<Call, AnyError> {
+    let key = array(heap, words)?;
+    let counter = array(heap, words)?;
+    let plaintext = row(heap, words)?;
+    let ciphertext = row(heap, words)?;
+    Ok(Call::Ctr { key, counter, plaintext, ciphertext })
+}
+
+fn cmac(heap: Global, words: &mut SplitWhitespace) -> Result<Call, AnyError> {
+    let key = array(heap, words)?;
+    let message = row(heap, words)?;
+    let tag = array(heap, words)?;
+    Ok(Call::Cmac { key, message, tag })
+}
+
+fn siv(heap: Global, words: &mut SplitWhitespace) -> Result<Call, AnyError> {
+    let key = array(heap, words)?;
+    let data = row(heap, words)?;
+    let plaintext = row(heap, words)?;
+    let output = row(heap, words)?;
+    Ok(Call::Siv { key, data, plaintext, output })
+}
+
+fn any_call(heap: Global, words: &mut SplitWhitespace) -> Result<Call, AnyError> {
+    match words.next() {
+        Some("aes") => aes(heap, words),
+        Some("ctr") => ctr(heap, words),
+        Some("cmac") => cmac(heap, words),
+        Some("siv") => siv(heap, words),
+        _ => Err("a line names no call that is known".into()),
+    }
+}
+
 impl Vector<'_> {
     pub fn parse(heap: Global, line: &str) -> Result<Vector<'_>, AnyError> {
         let (name, rest) = line.split_once(" = ").ok_or("a line has no ` = `")?;
         let mut words = rest.split_whitespace();
-        let call = match words.next() {
-            Some("aes") => Call::Aes {
-                key: array(heap, &mut words)?,
-                plaintext: blocks(heap, &mut words)?,
-                ciphertext: blocks(heap, &mut words)?,
-            },
-            Some("ctr") => Call::Ctr {
-                key: array(heap, &mut words)?,
-                counter: array(heap, &mut words)?,
-                plaintext: row(heap, &mut words)?,
-                ciphertext: row(heap, &mut words)?,
-            },
-            Some("cmac") => Call::Cmac {
-                key: array(heap, &mut words)?,
-                message: row(heap, &mut words)?,
-                tag: array(heap, &mut words)?,
-            },
-            Some("siv") => Call::Siv {
-                key: array(heap, &mut words)?,
-                data: row(heap, &mut words)?,
-                plaintext: row(heap, &mut words)?,
-                output: row(heap, &mut words)?,
-            },
-            _ => return Err("a line names no call that is known".into()),
-        };
+        let call = any_call(heap, &mut words)?;
         if words.next().is_some() {
             return Err("a line has too many rows".into());
         }
