@@ -1,0 +1,12 @@
+pub mod Wire
+pub mod Members
+pub mod Meanings
+pub mod Lists
+pub mod Views
+pub mod Laying
+pub mod Scanning
+pub mod Messages
+pub mod Known
+pub mod Claims
+pub mod Numbers
+pub mod Limits
