@@ -1,4 +1,5 @@
-// A cabinet seals a signal plan for its controller, opens it again, and refuses what was damaged on the way.
+// A cabinet seals a signal plan for its controller, opens it again, and refuses what was damaged on the way. It writes a
+// keyset as bytes and reads it back.
 use ciphers::aead::Aead;
 use ciphers::draws::CipherWords;
 use ciphers::draws::CipherWordsDraws;
@@ -7,6 +8,13 @@ use ciphers::fault::Fault;
 use ciphers::fault::FaultDisplay;
 use ciphers::siv::Siv;
 use ciphers::siv::SivAead;
+use encoding::message::read;
+use encoding::message::write;
+use encoding::messages::KeysetMessage;
+use encoding::numbers::KeyStatusType;
+use encoding::numbers::OutputPrefixType;
+use encoding::records::Key;
+use encoding::records::Keyset;
 use std::error::AnyError;
 use std::fs;
 
@@ -75,6 +83,50 @@ fn refuse_damaged(rt: &LibcRuntime, siv: &Siv, mut sealed: Vec<u8>) -> Result<()
     Ok(())
 }
 
+// One key that was destroyed: its id and its place are kept, its bytes are gone.
+fn destroyed_key(id: u32) -> Result<Keyset, Fault> {
+    let mut keyset = Keyset::new();
+    keyset.primary_key_id = id;
+    keyset.key.push(Key {
+        key_data: None,
+        status: KeyStatusType::Destroyed.number(),
+        key_id: id,
+        output_prefix_type: OutputPrefixType::Tink.number(),
+    })?;
+    Ok(keyset)
+}
+
+fn show_keyset(rt: &LibcRuntime, bytes: &[u8]) -> Result<(), AnyError> {
+    match read::<Keyset>(bytes) {
+        Ok(keyset) => {
+            let primary = keyset.primary_key_id;
+            let count = keyset.key.len();
+            println!(rt, "read a keyset: primary id {primary}, keys {count}")?;
+        }
+        Err(fault) => println!(rt, "not a keyset: {fault}")?,
+    }
+    Ok(())
+}
+
+fn keep_keyset(rt: &LibcRuntime) -> Result<(), AnyError> {
+    let heap = rt.alloc();
+    let mut bytes = vec![in heap; 0u8; 64]?;
+    let Ok(keyset) = destroyed_key(7) else {
+        return Err("the keyset is full".into());
+    };
+    let Ok(n) = write(&keyset, &mut bytes) else {
+        return Err("the keyset has no room".into());
+    };
+    bytes.truncate(n);
+    let shown = sheet::hex(heap, &bytes)?;
+    println!(rt, "wrote a keyset, {n} bytes: {shown}")?;
+    show_keyset(rt, &bytes)?;
+    if let Some(last) = bytes.last_mut() {
+        *last = 0;
+    }
+    show_keyset(rt, &bytes)
+}
+
 fn run(rt: &LibcRuntime) -> Result<(), AnyError> {
     let plan = fs::read(rt, "plan.txt")?;
     let length = plan.len();
@@ -90,7 +142,8 @@ fn run(rt: &LibcRuntime) -> Result<(), AnyError> {
     let siv = Siv::new(key);
     let sealed = seal(rt, &siv, &plan)?;
     open(rt, &siv, &sealed)?;
-    refuse_damaged(rt, &siv, sealed)
+    refuse_damaged(rt, &siv, sealed)?;
+    keep_keyset(rt)
 }
 
 fn main(rt: LibcRuntime) -> Result<(), AnyError> {
