@@ -1,0 +1,11 @@
+pub mod Kind
+pub mod Answers
+pub mod Elements
+pub mod Positions
+pub mod Editing
+pub mod EachKey
+pub mod Judging
+pub mod EditLaws
+pub mod Undoing
+pub mod ValidLaws
+pub mod CheckLaws

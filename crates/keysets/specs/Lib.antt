@@ -1,0 +1,9 @@
+pub mod Kinds
+pub mod Answering
+pub mod Edits
+pub mod Reading
+pub mod Validation
+pub mod Checks
+pub mod Seeing
+pub mod Claims
+pub mod Validity
