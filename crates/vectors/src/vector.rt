@@ -65,7 +65,11 @@ fn aes(heap: Global, words: &mut SplitWhitespace) -> Result<Call, AnyError> {
     let key = array(heap, words)?;
     let plaintext = blocks(heap, words)?;
     let ciphertext = blocks(heap, words)?;
-    Ok(Call::Aes { key, plaintext, ciphertext })
+    Ok(Call::Aes {
+        key,
+        plaintext,
+        ciphertext,
+    })
 }
 
 fn ctr(heap: Global, words: &mut SplitWhitespace) -> Result<Call, AnyError> {
@@ -73,7 +77,12 @@ fn ctr(heap: Global, words: &mut SplitWhitespace) -> Result<Call, AnyError> {
     let counter = array(heap, words)?;
     let plaintext = row(heap, words)?;
     let ciphertext = row(heap, words)?;
-    Ok(Call::Ctr { key, counter, plaintext, ciphertext })
+    Ok(Call::Ctr {
+        key,
+        counter,
+        plaintext,
+        ciphertext,
+    })
 }
 
 fn cmac(heap: Global, words: &mut SplitWhitespace) -> Result<Call, AnyError> {
@@ -88,7 +97,12 @@ fn siv(heap: Global, words: &mut SplitWhitespace) -> Result<Call, AnyError> {
     let data = row(heap, words)?;
     let plaintext = row(heap, words)?;
     let output = row(heap, words)?;
-    Ok(Call::Siv { key, data, plaintext, output })
+    Ok(Call::Siv {
+        key,
+        data,
+        plaintext,
+        output,
+    })
 }
 
 fn any_call(heap: Global, words: &mut SplitWhitespace) -> Result<Call, AnyError> {
