@@ -87,12 +87,14 @@ fn refuse_damaged(rt: &LibcRuntime, siv: &Siv, mut sealed: Vec<u8>) -> Result<()
 fn destroyed_key(id: u32) -> Result<Keyset, Fault> {
     let mut keyset = Keyset::new();
     keyset.primary_key_id = id;
-    keyset.key.push(Key {
-        key_data: None,
-        status: KeyStatusType::Destroyed.number(),
-        key_id: id,
-        output_prefix_type: OutputPrefixType::Tink.number(),
-    })?;
+    keyset
+        .key
+        .push(Key {
+            key_data: None,
+            status: KeyStatusType::Destroyed.number(),
+            key_id: id,
+            output_prefix_type: OutputPrefixType::Tink.number(),
+        })?;
     Ok(keyset)
 }
 

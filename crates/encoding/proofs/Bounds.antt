@@ -32,10 +32,11 @@ short b = omega (arith, list-length b, b .fits)
 -- a list that is short enough, with blanks behind it
 padded : {T : Type 0} (n : ℕ) (d : T) (xs : List T) → length xs ≤ n → Bounded T n
 padded n d xs l = record {
-    items = xs ++ replicate (n - length xs) d;
-    len = length xs;
-    fits = l;
-    full = omega (arith, length-append xs (replicate (n - length xs) d), length-replicate (n - length xs) d) }
+  items = xs ++ replicate (n - length xs) d;
+  len = length xs;
+  fits = l;
+  full = omega (arith, length-append xs (replicate (n - length xs) d), length-replicate (n - length xs) d);
+}
 
 padded-list : {T : Type 0} (n : ℕ) (d : T) (xs : List T) (l : length xs ≤ n) → list (padded n d xs l) ≡ xs
 unfolding padded
@@ -47,9 +48,10 @@ url-held u = record { short = short (u .text); seen = u .seen }
 url-made : (u : List ℕ) → UrlWithin u → (t : TypeUrl) × (urlBytes t ≡ u)
 unfolding padded
 url-made u w =
-    let b = padded 64 0 u (w .short) in
-    (record { text = b; seen = ap visible (padded-list 64 0 u (w .short)) ∙ w .seen; clean = drop-at u (replicate (64 - length u) 0) (length u) refl },
-     padded-list 64 0 u (w .short))
+    let b = padded 64 0 u (w .short) in (
+      record { text = b; seen = ap visible (padded-list 64 0 u (w .short)) ∙ w .seen; clean = drop-at u (replicate (64 - length u) 0) (length u) refl },
+      padded-list 64 0 u (w .short),
+    )
 
 -- records inside records
 option-held : {R X : Type 0} (view : R → X) (W : X → Type 0) → ((r : R) → W (view r)) → (o : Option R) → Cases (mapped view o) (Unit {0}) W
@@ -84,37 +86,41 @@ list-made view W h d n ms l w =
 
 pub key-data : Exactly keyDataView KeyDataWithin
 key-data = record {
-    held = λ d. record { url = url-held (d .«type_url»); value = short (d .value); material = d .«material_width» };
-    made = λ m w.
+  held = λ d. record { url = url-held (d .«type_url»); value = short (d .value); material = d .«material_width» };
+  made = λ m w.
       let u = url-made (m .typeUrl) (w .url) in
       let p = u .1 in
       let q = padded-list 128 0 (m .value) (w .value) in
-      (record { «type_url» = u .0; value = padded 128 0 (m .value) (w .value); «key_material_type» = m .keyMaterialType; «material_width» = w .material }, λ j. record { typeUrl = p j; value = q j; keyMaterialType = m .keyMaterialType }) }
+      (record { «type_url» = u .0; value = padded 128 0 (m .value) (w .value); «key_material_type» = m .keyMaterialType; «material_width» = w .material }, λ j. record { typeUrl = p j; value = q j; keyMaterialType = m .keyMaterialType });
+}
 
 pub key-template : Exactly keyTemplateView KeyTemplateWithin
 key-template = record {
-    held = λ d. record { url = url-held (d .«type_url»); value = short (d .value); prefix = d .«prefix_width» };
-    made = λ m w.
+  held = λ d. record { url = url-held (d .«type_url»); value = short (d .value); prefix = d .«prefix_width» };
+  made = λ m w.
       let u = url-made (m .typeUrl) (w .url) in
       let p = u .1 in
       let q = padded-list 128 0 (m .value) (w .value) in
-      (record { «type_url» = u .0; value = padded 128 0 (m .value) (w .value); «output_prefix_type» = m .outputPrefixType; «prefix_width» = w .prefix }, λ j. record { typeUrl = p j; value = q j; outputPrefixType = m .outputPrefixType }) }
+      (record { «type_url» = u .0; value = padded 128 0 (m .value) (w .value); «output_prefix_type» = m .outputPrefixType; «prefix_width» = w .prefix }, λ j. record { typeUrl = p j; value = q j; outputPrefixType = m .outputPrefixType });
+}
 
 pub key : Exactly keyView KeyWithin
 key = record {
-    held = λ k. record { content = option-held keyDataView KeyDataWithin (key-data .held) (k .«key_data»); status = k .«status_width»; id = k .«id_width»; prefix = k .«prefix_width» };
-    made = λ m w.
+  held = λ k. record { content = option-held keyDataView KeyDataWithin (key-data .held) (k .«key_data»); status = k .«status_width»; id = k .«id_width»; prefix = k .«prefix_width» };
+  made = λ m w.
       let o = option-made keyDataView KeyDataWithin (key-data .made) (m .keyData) (w .content) in
       let p = o .1 in
-      (record { «key_data» = o .0; status = m .status; «key_id» = m .keyId; «output_prefix_type» = m .outputPrefixType; «status_width» = w .status; «id_width» = w .id; «prefix_width» = w .prefix }, λ j. record { keyData = p j; status = m .status; keyId = m .keyId; outputPrefixType = m .outputPrefixType }) }
+      (record { «key_data» = o .0; status = m .status; «key_id» = m .keyId; «output_prefix_type» = m .outputPrefixType; «status_width» = w .status; «id_width» = w .id; «prefix_width» = w .prefix }, λ j. record { keyData = p j; status = m .status; keyId = m .keyId; outputPrefixType = m .outputPrefixType });
+}
 
 pub key-info : Exactly keyInfoView KeyInfoWithin
 key-info = record {
-    held = λ i. record { url = url-held (i .«type_url»); status = i .«status_width»; id = i .«id_width»; prefix = i .«prefix_width» };
-    made = λ m w.
+  held = λ i. record { url = url-held (i .«type_url»); status = i .«status_width»; id = i .«id_width»; prefix = i .«prefix_width» };
+  made = λ m w.
       let u = url-made (m .typeUrl) (w .url) in
       let p = u .1 in
-      (record { «type_url» = u .0; status = m .status; «key_id» = m .keyId; «output_prefix_type» = m .outputPrefixType; «status_width» = w .status; «id_width» = w .id; «prefix_width» = w .prefix }, λ j. record { typeUrl = p j; status = m .status; keyId = m .keyId; outputPrefixType = m .outputPrefixType }) }
+      (record { «type_url» = u .0; status = m .status; «key_id» = m .keyId; «output_prefix_type» = m .outputPrefixType; «status_width» = w .status; «id_width» = w .id; «prefix_width» = w .prefix }, λ j. record { typeUrl = p j; status = m .status; keyId = m .keyId; outputPrefixType = m .outputPrefixType });
+}
 
 blank-key : Key
 blank-key = record { «key_data» = None; status = pos 0; «key_id» = 0; «output_prefix_type» = pos 0; «status_width» = omega arith; «id_width» = omega arith; «prefix_width» = omega arith }
@@ -124,25 +130,28 @@ blank-info = record { «type_url» = url-made [] (record { short = omega arith; 
 
 pub keyset : Exactly keysetView KeysetWithin
 keyset = record {
-    held = λ s. record { primary = s .«id_width»; few = list-held keyView (s .key); all = all-held keyView KeyWithin (key .held) (list (s .key)) };
-    made = λ m w.
+  held = λ s. record { primary = s .«id_width»; few = list-held keyView (s .key); all = all-held keyView KeyWithin (key .held) (list (s .key)) };
+  made = λ m w.
       let b = list-made keyView KeyWithin (key .made) blank-key 16 (m .keys) (w .few) (w .all) in
       let p = b .1 in
-      (record { «primary_key_id» = m .primaryKeyId; key = b .0; «id_width» = w .primary }, λ j. record { primaryKeyId = m .primaryKeyId; keys = p j }) }
+      (record { «primary_key_id» = m .primaryKeyId; key = b .0; «id_width» = w .primary }, λ j. record { primaryKeyId = m .primaryKeyId; keys = p j });
+}
 
 pub keyset-info : Exactly keysetInfoView KeysetInfoWithin
 keyset-info = record {
-    held = λ s. record { primary = s .«id_width»; few = list-held keyInfoView (s .«key_info»); all = all-held keyInfoView KeyInfoWithin (key-info .held) (list (s .«key_info»)) };
-    made = λ m w.
+  held = λ s. record { primary = s .«id_width»; few = list-held keyInfoView (s .«key_info»); all = all-held keyInfoView KeyInfoWithin (key-info .held) (list (s .«key_info»)) };
+  made = λ m w.
       let b = list-made keyInfoView KeyInfoWithin (key-info .made) blank-info 16 (m .keyInfos) (w .few) (w .all) in
       let p = b .1 in
-      (record { «primary_key_id» = m .primaryKeyId; «key_info» = b .0; «id_width» = w .primary }, λ j. record { primaryKeyId = m .primaryKeyId; keyInfos = p j }) }
+      (record { «primary_key_id» = m .primaryKeyId; «key_info» = b .0; «id_width» = w .primary }, λ j. record { primaryKeyId = m .primaryKeyId; keyInfos = p j });
+}
 
 pub encrypted-keyset : Exactly encryptedKeysetView EncryptedKeysetWithin
 encrypted-keyset = record {
-    held = λ e. record { sealed = short (e .«encrypted_keyset»); info = option-held keysetInfoView KeysetInfoWithin (keyset-info .held) (e .«keyset_info») };
-    made = λ m w.
+  held = λ e. record { sealed = short (e .«encrypted_keyset»); info = option-held keysetInfoView KeysetInfoWithin (keyset-info .held) (e .«keyset_info») };
+  made = λ m w.
       let o = option-made keysetInfoView KeysetInfoWithin (keyset-info .made) (m .keysetInfo) (w .info) in
       let p = o .1 in
       let q = padded-list 4160 0 (m .encryptedKeyset) (w .sealed) in
-      (record { «encrypted_keyset» = padded 4160 0 (m .encryptedKeyset) (w .sealed); «keyset_info» = o .0 }, λ j. record { encryptedKeyset = q j; keysetInfo = p j }) }
+      (record { «encrypted_keyset» = padded 4160 0 (m .encryptedKeyset) (w .sealed); «keyset_info» = o .0 }, λ j. record { encryptedKeyset = q j; keysetInfo = p j });
+}

@@ -22,13 +22,16 @@ use Rattle.encoding.proofs.KeysetInfos.{sound as inner-sound, alike as inner-a
 
 abbrev pub P2 : EncryptedKeyset → List Field
 P2 r = text 2 (list (r .«encrypted_keyset»))
+
 abbrev pub P3 : EncryptedKeyset → List Field
 P3 r = present keysetInfoFields 3 (mapped keysetInfoView (r .«keyset_info»))
+
 abbrev pub Q2 : EncryptedKeyset → List Field
 Q2 r = P3 r ++ []
 
 part2 : (r : EncryptedKeyset) → Sound encryptedKeysetKnows 2 2 4163 (P2 r)
 part2 r = text-sound encryptedKeysetKnows 2 4160 2 (list (r .«encrypted_keyset»)) (omega arith) (omega arith) (λ b. refl) (omega arith) (omega (arith, list-length (r .«encrypted_keyset»), r .«encrypted_keyset» .fits)) (two-bytes (omega arith))
+
 part3 : (r : EncryptedKeyset) → Sound encryptedKeysetKnows 3 3 1545 (P3 r)
 unfolding fieldsOfKeysetInfo
 part3 r = sound-as (present-view keysetInfoFields keysetInfoView 3 (r .«keyset_info»)) (present-sound encryptedKeysetKnows 3 1542 2 fieldsOfKeysetInfo (r .«keyset_info») (omega arith) (omega arith) (λ b. refl) (omega arith) (λ i. inner-sound i .size) (two-bytes (omega arith)))
@@ -42,6 +45,7 @@ sound r = from-one (omega arith) (join (omega arith) (part2 r) (from3 r))
 
 L2 : Level encryptedKeysetKnows 2 P2 Q2
 L2 = record { here = λ r. part2 r .ordered; after = λ r. from3 r .ordered }
+
 L3 : Level encryptedKeysetKnows 3 P3 (λ r. [])
 L3 = record { here = λ r. part3 r .ordered; after = λ r. none {K = encryptedKeysetKnows} {lo = 4} {hi = 15} .ordered }
 
@@ -56,7 +60,7 @@ pub take3 : (b : Bool) (old new : EncryptedKeyset) (p : List ℕ) → P2 new ≡
 unfolding encryptedKeysetFields fieldsOfEncryptedKeyset fieldsOfKeysetInfo
 take3 b old new p s0 h =
     rest L2 b old new (bytes 3 p) (omega arith) s0 (
-      first L3 (present fieldsOfKeysetInfo 3) (λ _. Unit {0}) (λ r. r .«keyset_info») (λ _. tt) (λ r. present-view keysetInfoFields keysetInfoView 3 (r .«keyset_info»)) b old new (bytes 3 p) refl refl h)
+    first L3 (present fieldsOfKeysetInfo 3) (λ _. Unit {0}) (λ r. r .«keyset_info») (λ _. tt) (λ r. present-view keysetInfoFields keysetInfoView 3 (r .«keyset_info»)) b old new (bytes 3 p) refl refl h)
 
 pub told : (r s : EncryptedKeyset) → fieldsOfEncryptedKeyset r ≡ fieldsOfEncryptedKeyset s → encryptedKeysetView r ≡ encryptedKeysetView s
 unfolding encryptedKeysetFields fieldsOfEncryptedKeyset fieldsOfKeysetInfo

@@ -23,9 +23,10 @@ varint-unique a b x y l m e =
     (same, append-cancel-left (varint b) x y (subst (λ (n : ℕ). varint n ++ x ≡ varint b ++ y) same e))
 
 pub parts-same : (v w r s : List ℕ) → length v ≡ length w → v ++ r ≡ w ++ s → (v ≡ w) × (r ≡ s)
-parts-same v w r s l e =
-    (sym (take-at v r (length v) refl) ∙ ap (take (length v)) e ∙ take-at w s (length v) (sym l),
-     sym (drop-at v r (length v) refl) ∙ ap (drop (length v)) e ∙ drop-at w s (length v) (sym l))
+parts-same v w r s l e = (
+  sym (take-at v r (length v) refl) ∙ ap (take (length v)) e ∙ take-at w s (length v) (sym l),
+  sym (drop-at v r (length v) refl) ∙ ap (drop (length v)) e ∙ drop-at w s (length v) (sym l),
+)
 
 pub take-split : {X : Type 0} (a n : ℕ) (xs : List X) → a ≤ n → take n xs ≡ take a xs ++ take (n - a) (drop a xs)
 take-split a n xs h =
@@ -83,4 +84,3 @@ encode-same (f ∷ fs) (g ∷ gs) a b e =
     let one = u .0 in
     let two = encode-same fs gs (a .1) (b .1) (u .1) in
     cc
-

@@ -23,24 +23,31 @@ use Rattle.encoding.proofs.Sorts.{text-sound, text-told, signed-sound, signed-
 
 abbrev pub P1 : KeyData → List Field
 P1 r = text 1 (urlBytes (r .«type_url»))
+
 abbrev pub P2 : KeyData → List Field
 P2 r = text 2 (list (r .value))
+
 abbrev pub P3 : KeyData → List Field
 P3 r = signed 3 (r .«key_material_type»)
+
 abbrev pub Q2 : KeyData → List Field
 Q2 r = P3 r ++ []
+
 abbrev pub Q1 : KeyData → List Field
 Q1 r = P2 r ++ Q2 r
 
 part1 : (r : KeyData) → Sound keyDataKnows 1 1 66 (P1 r)
 part1 r = text-sound keyDataKnows 1 64 1 (urlBytes (r .«type_url»)) (omega arith) (omega arith) (λ b. refl) (omega arith) (omega (arith, list-length (r .«type_url» .text), r .«type_url» .text .fits)) (one-byte (omega arith))
+
 part2 : (r : KeyData) → Sound keyDataKnows 2 2 131 (P2 r)
 part2 r = text-sound keyDataKnows 2 128 2 (list (r .value)) (omega arith) (omega arith) (λ b. refl) (omega arith) (omega (arith, list-length (r .value), r .value .fits)) (two-bytes (omega arith))
+
 part3 : (r : KeyData) → Sound keyDataKnows 3 3 11 (P3 r)
 part3 r = signed-sound keyDataKnows 3 (r .«key_material_type») (omega arith) (omega arith) (λ u. refl) (r .«material_width»)
 
 from3 : (r : KeyData) → Sound keyDataKnows 3 15 11 (Q2 r)
 from3 r = join (omega arith) (part3 r) none
+
 from2 : (r : KeyData) → Sound keyDataKnows 2 15 142 (Q1 r)
 from2 r = join (omega arith) (part2 r) (from3 r)
 
@@ -50,8 +57,10 @@ sound r = join (omega arith) (part1 r) (from2 r)
 
 L1 : Level keyDataKnows 1 P1 Q1
 L1 = record { here = λ r. part1 r .ordered; after = λ r. from2 r .ordered }
+
 L2 : Level keyDataKnows 2 P2 Q2
 L2 = record { here = λ r. part2 r .ordered; after = λ r. from3 r .ordered }
+
 L3 : Level keyDataKnows 3 P3 (λ r. [])
 L3 = record { here = λ r. part3 r .ordered; after = λ r. none {K = keyDataKnows} {lo = 4} {hi = 15} .ordered }
 
@@ -66,15 +75,15 @@ pub take2 : (b : Bool) (old new : KeyData) (p : List ℕ) → P1 new ≡ P1 old 
 unfolding keyDataFields fieldsOfKeyData
 take2 b old new p s0 s1 h =
     rest L1 b old new (bytes 2 p) (omega arith) s0 (
-      first L2 (λ b. text 2 (list b)) (λ _. Unit {0}) (λ r. r .value) (λ _. tt) (λ r. refl) b old new (bytes 2 p) refl s1 h)
+    first L2 (λ b. text 2 (list b)) (λ _. Unit {0}) (λ r. r .value) (λ _. tt) (λ r. refl) b old new (bytes 2 p) refl s1 h)
 
 pub take3 : (b : Bool) (old new : KeyData) (v : ℕ) → P1 new ≡ P1 old → P2 new ≡ P2 old →
     Filled (signed 3) (λ z. SFits w32 z) b (old .«key_material_type») (new .«key_material_type») (number 3 v) → Took fieldsOfKeyData b old new (number 3 v)
 unfolding keyDataFields fieldsOfKeyData
 take3 b old new v s0 s1 h =
     rest L1 b old new (number 3 v) (omega arith) s0 (
-      rest L2 b old new (number 3 v) (omega arith) s1 (
-      first L3 (signed 3) (λ z. SFits w32 z) (λ r. r .«key_material_type») (λ r. record { sfits = r .«material_width» }) (λ r. refl) b old new (number 3 v) refl refl h))
+    rest L2 b old new (number 3 v) (omega arith) s1 (
+    first L3 (signed 3) (λ z. SFits w32 z) (λ r. r .«key_material_type») (λ r. record { sfits = r .«material_width» }) (λ r. refl) b old new (number 3 v) refl refl h))
 
 pub told : (r s : KeyData) → fieldsOfKeyData r ≡ fieldsOfKeyData s → keyDataView r ≡ keyDataView s
 unfolding keyDataFields fieldsOfKeyData

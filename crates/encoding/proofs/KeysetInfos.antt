@@ -23,13 +23,16 @@ use Rattle.encoding.proofs.KeyInfos.{sound as inner-sound, alike as inner-alik
 
 abbrev pub P1 : KeysetInfo → List Field
 P1 r = unsigned 1 (r .«primary_key_id»)
+
 abbrev pub P2 : KeysetInfo → List Field
 P2 r = each keyInfoFields 2 (map keyInfoView (list (r .«key_info»)))
+
 abbrev pub Q1 : KeysetInfo → List Field
 Q1 r = P2 r ++ []
 
 part1 : (r : KeysetInfo) → Sound keysetInfoKnows 1 1 6 (P1 r)
 part1 r = unsigned-sound keysetInfoKnows 1 (r .«primary_key_id») (omega arith) (omega arith) (λ u. refl) (r .«id_width»)
+
 part2 : (r : KeysetInfo) → Sound keysetInfoKnows 2 2 1536 (P2 r)
 unfolding fieldsOfKeyInfo
 part2 r = sound-as (each-view keyInfoFields keyInfoView 2 (list (r .«key_info»)))
@@ -44,6 +47,7 @@ sound r = join (omega arith) (part1 r) (from2 r)
 
 L1 : Level keysetInfoKnows 1 P1 Q1
 L1 = record { here = λ r. part1 r .ordered; after = λ r. from2 r .ordered }
+
 L2 : Level keysetInfoKnows 2 P2 (λ r. [])
 L2 = record { here = λ r. part2 r .ordered; after = λ r. none {K = keysetInfoKnows} {lo = 3} {hi = 15} .ordered }
 
@@ -58,7 +62,7 @@ pub take2 : (b : Bool) (old new : KeysetInfo) (p : List ℕ) → P1 new ≡ P1 o
 unfolding keysetInfoFields fieldsOfKeysetInfo fieldsOfKeyInfo
 take2 b old new p s0 h =
     rest L1 b old new (bytes 2 p) (omega arith) s0 (
-      first L2 (λ (b : Bounded KeyInfo 16). each fieldsOfKeyInfo 2 (list b)) (λ _. Unit {0}) (λ r. r .«key_info») (λ _. tt) (λ r. each-view keyInfoFields keyInfoView 2 (list (r .«key_info»))) b old new (bytes 2 p) refl refl h)
+    first L2 (λ (b : Bounded KeyInfo 16). each fieldsOfKeyInfo 2 (list b)) (λ _. Unit {0}) (λ r. r .«key_info») (λ _. tt) (λ r. each-view keyInfoFields keyInfoView 2 (list (r .«key_info»))) b old new (bytes 2 p) refl refl h)
 
 pub told : (r s : KeysetInfo) → fieldsOfKeysetInfo r ≡ fieldsOfKeysetInfo s → keysetInfoView r ≡ keysetInfoView s
 unfolding keysetInfoFields fieldsOfKeysetInfo fieldsOfKeyInfo

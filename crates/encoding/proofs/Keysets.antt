@@ -23,13 +23,16 @@ use Rattle.encoding.proofs.Keys.{sound as inner-sound, alike as inner-alike}
 
 abbrev pub P1 : Keyset → List Field
 P1 r = unsigned 1 (r .«primary_key_id»)
+
 abbrev pub P2 : Keyset → List Field
 P2 r = each keyFields 2 (map keyView (list (r .key)))
+
 abbrev pub Q1 : Keyset → List Field
 Q1 r = P2 r ++ []
 
 part1 : (r : Keyset) → Sound keysetKnows 1 1 6 (P1 r)
 part1 r = unsigned-sound keysetKnows 1 (r .«primary_key_id») (omega arith) (omega arith) (λ u. refl) (r .«id_width»)
+
 part2 : (r : Keyset) → Sound keysetKnows 2 2 3872 (P2 r)
 unfolding fieldsOfKey
 part2 r = sound-as (each-view keyFields keyView 2 (list (r .key)))
@@ -44,6 +47,7 @@ sound r = join (omega arith) (part1 r) (from2 r)
 
 L1 : Level keysetKnows 1 P1 Q1
 L1 = record { here = λ r. part1 r .ordered; after = λ r. from2 r .ordered }
+
 L2 : Level keysetKnows 2 P2 (λ r. [])
 L2 = record { here = λ r. part2 r .ordered; after = λ r. none {K = keysetKnows} {lo = 3} {hi = 15} .ordered }
 
@@ -58,7 +62,7 @@ pub take2 : (b : Bool) (old new : Keyset) (p : List ℕ) → P1 new ≡ P1 old �
 unfolding keysetFields fieldsOfKeyset fieldsOfKey
 take2 b old new p s0 h =
     rest L1 b old new (bytes 2 p) (omega arith) s0 (
-      first L2 (λ (b : Bounded Key 16). each fieldsOfKey 2 (list b)) (λ _. Unit {0}) (λ r. r .key) (λ _. tt) (λ r. each-view keyFields keyView 2 (list (r .key))) b old new (bytes 2 p) refl refl h)
+    first L2 (λ (b : Bounded Key 16). each fieldsOfKey 2 (list b)) (λ _. Unit {0}) (λ r. r .key) (λ _. tt) (λ r. each-view keyFields keyView 2 (list (r .key))) b old new (bytes 2 p) refl refl h)
 
 pub told : (r s : Keyset) → fieldsOfKeyset r ≡ fieldsOfKeyset s → keysetView r ≡ keysetView s
 unfolding keysetFields fieldsOfKeyset fieldsOfKey

@@ -72,15 +72,18 @@ laid-part at n k xs os ys l e m y =
 
 pub then : (xs ys old mid new : List ℕ) (at a b : ℕ) → length old < 2 ^ 64 → Laid xs old at mid a → Laid ys mid a new b → Laid (xs ++ ys) old at new b
 then xs ys old mid new at a b room p q =
-    record { after = elim (cases-lt (at + length xs) (2 ^ 64)) [
-                 inl l ↦
-                   let e : a ≡ at + length xs = omega (arith, p .ends) in
-                   q .after ∙ ap (laid a ys) (p .after) ∙ laid-more at a xs ys old e
-               | inr g ↦
-                   let e : a ≡ 2 ^ 64 - 1 = omega (arith, p .ends) in
-                   let len : length mid ≡ length old = ap length (p .after) ∙ length-laid at xs old in
-                   q .after ∙ laid-past a ys mid (omega arith) ∙ p .after ∙ sym (laid-past (at + length xs) ys (laid at xs old) (omega (arith, length-laid at xs old))) ∙ laid-more at (at + length xs) xs ys old refl ];
-             ends = omega (arith, p .ends, q .ends, length-append xs ys) }
+    record {
+      after = elim (cases-lt (at + length xs) (2 ^ 64)) [
+        | inl l ↦
+            let e : a ≡ at + length xs = omega (arith, p .ends) in
+            q .after ∙ ap (laid a ys) (p .after) ∙ laid-more at a xs ys old e
+        | inr g ↦
+            let e : a ≡ 2 ^ 64 - 1 = omega (arith, p .ends) in
+            let len : length mid ≡ length old = ap length (p .after) ∙ length-laid at xs old in
+            q .after ∙ laid-past a ys mid (omega arith) ∙ p .after ∙ sym (laid-past (at + length xs) ys (laid at xs old) (omega (arith, length-laid at xs old))) ∙ laid-more at (at + length xs) xs ys old refl
+      ];
+      ends = omega (arith, p .ends, q .ends, length-append xs ys);
+    }
 
 pub laid-as : (xs ys old : List ℕ) (at : ℕ) (new : List ℕ) (b : ℕ) → xs ≡ ys → Laid xs old at new b → Laid ys old at new b
 laid-as xs ys old at new b e p = subst (λ (x : List ℕ). Laid x old at new b) e p

@@ -84,9 +84,10 @@ moved-more xs ys at i d l m n e k =
 
 pub copied-all : {T : Type 0} (items from : List T) (i n : ℕ) (b : T) → length from ≡ i → take i items ≡ take i from → drop i items ≡ drop i (replicate n b)
     → (take (length from) items ≡ from) × (drop (length from) items ≡ replicate (n - length from) b)
-copied-all items from i n b e t d =
-    (ap (λ k. take k items) e ∙ t ∙ take-all i from (omega arith),
-     ap (λ k. drop k items) e ∙ d ∙ drop-replicate i n b ∙ ap (λ k. replicate (n - k) b) (sym e))
+copied-all items from i n b e t d = (
+  ap (λ k. take k items) e ∙ t ∙ take-all i from (omega arith),
+  ap (λ k. drop k items) e ∙ d ∙ drop-replicate i n b ∙ ap (λ k. replicate (n - k) b) (sym e),
+)
 
 pub removed-all : {T : Type 0} (items all : List T) (at n i : ℕ) (b : T) → i ≡ n - 1 → at < n → n ≤ length all → take i items ≡ take i (without all at)
     → take (n - 1) (set items (n - 1) b) ≡ without (take n all) at

@@ -27,14 +27,15 @@ place {R} fields small bs at r lt e stuck = record { early = lt; whole = (r, e);
   where
     longest : (s : R) (n : ℕ) → n ≤ length bs → encode (fields s) ≡ take n bs → n ≤ at
     longest s n l q = elim (cases-lt at n) [
-        inr g ↦ g
+      | inr g ↦ g
       | inl g ↦
           let cut : take n bs ≡ take at bs ++ take (n - at) (drop at bs) = take-split at n bs (omega arith) in
           let long : length (take (n - at) (drop at bs)) ≡ n - at = length-take-le (n - at) (drop at bs) (simp length-drop (omega arith)) in
           let t = fields-split (fields r) (fields s) (take (n - at) (drop at bs)) (small r) (small s) (omega arith) (q ∙ cut ∙ ap (λ (x : List ℕ). x ++ take (n - at) (drop at bs)) (sym e)) in
           let whole : drop at bs ≡ encodeField (t .0) ++ (encode (t .1 .0) ++ drop (n - at) (drop at bs)) =
-              sym (take-append-drop (n - at) (drop at bs)) ∙ ap (λ (x : List ℕ). x ++ drop (n - at) (drop at bs)) (sym (t .1 .2)) ∙ append-assoc (encodeField (t .0)) (encode (t .1 .0)) (drop (n - at) (drop at bs)) in
-          absurd (stuck (t .0) (encode (t .1 .0) ++ drop (n - at) (drop at bs)) (t .1 .3) whole s (t .1 .0) (t .1 .1)) ]
+          sym (take-append-drop (n - at) (drop at bs)) ∙ ap (λ (x : List ℕ). x ++ drop (n - at) (drop at bs)) (sym (t .1 .2)) ∙ append-assoc (encodeField (t .0)) (encode (t .1 .0)) (drop (n - at) (drop at bs)) in
+          absurd (stuck (t .0) (encode (t .1 .0) ++ drop (n - at) (drop at bs)) (t .1 .3) whole s (t .1 .0) (t .1 .1))
+    ]
 
 pub went-more : {R : Type 0} (fields : R → List Field) (bs : List ℕ) (at n k : ℕ) (old new : R) → at ≤ length bs
     → encode (fields old) ≡ take at bs → Went fields old new (drop at bs) n k
@@ -70,11 +71,15 @@ pub taken : {R : Type 0} (fields : R → List Field) (K : Field → Bool) → ((
 taken fields K ordered old new bs p g r i same n l e t =
     let yes = when-true _ _ e t in
     let en = at-end fields K ordered old (numberOf g) l in
-    record { field = g;
-             front = subst (λ (f : Field). bs ≡ encodeField f ++ drop (p .size) bs) same (i .front);
-             size = subst (λ (f : Field). p .size ≡ length (encodeField f)) same (i .size);
-             within = i .within; some = i .some; number = sym n;
-             added = yes ∙ ap (λ x. x ++ (g ∷ past (numberOf g) (fields old))) (en .0) ∙ ap (λ x. fields old ++ (g ∷ x)) (en .1) }
+    record {
+      field = g;
+      front = subst (λ (f : Field). bs ≡ encodeField f ++ drop (p .size) bs) same (i .front);
+      size = subst (λ (f : Field). p .size ≡ length (encodeField f)) same (i .size);
+      within = i .within;
+      some = i .some;
+      number = sym n;
+      added = yes ∙ ap (λ x. x ++ (g ∷ past (numberOf g) (fields old))) (en .0) ∙ ap (λ x. fields old ++ (g ∷ x)) (en .1);
+    }
 
 -- the reader accepts what is a record's encoding
 pub never-place : {R : Type 0} (fields : R → List Field) (bs : List ℕ) (at : ℕ) (r : R) → encode (fields r) ≡ bs → Place fields bs at → ⊥

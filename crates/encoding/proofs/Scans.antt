@@ -46,9 +46,11 @@ fronts : (bs : List ℕ) (f : Field) (rest : List ℕ) → Small f → bs ≡ en
 fronts bs f rest s e =
     let e2 : bs ≡ varint (keyOf f) ++ (varint (valOf f) ++ (payOf f ++ rest)) = e ∙ shape f rest in
     let d : drop (length (varint (keyOf f))) bs ≡ varint (valOf f) ++ (payOf f ++ rest) = ap (drop (length (varint (keyOf f)))) e2 ∙ drop-at (varint (keyOf f)) (varint (valOf f) ++ (payOf f ++ rest)) (length (varint (keyOf f))) refl in
-    record { key = ap (unvarint 9) e2 ∙ complete 9 (keyOf f) (varint (valOf f) ++ (payOf f ++ rest)) (small-key f s .0);
-             after = d;
-             val = ap (unvarint 9) d ∙ complete 9 (valOf f) (payOf f ++ rest) (small-key f s .1) }
+    record {
+      key = ap (unvarint 9) e2 ∙ complete 9 (keyOf f) (varint (valOf f) ++ (payOf f ++ rest)) (small-key f s .0);
+      after = d;
+      val = ap (unvarint 9) d ∙ complete 9 (valOf f) (payOf f ++ rest) (small-key f s .1);
+    }
 
 pub no-key : (bs : List ℕ) → None ≡ unvarint 9 bs → NoField bs
 no-key bs h f rest s e = none-some _ (h ∙ fronts bs f rest s e .key)
@@ -103,7 +105,8 @@ is-number bs key k v n h j even =
       small = (omega (arith, a .small, cap-nine), omega (arith, b .small, cap-nine));
       within = omega (arith, a .within, b .within, length-drop k bs);
       ahead = omega arith;
-      some = omega (arith, a .some) }
+      some = omega (arith, a .some);
+    }
 
 pub is-bytes : (bs : List ℕ) (key k v n : ℕ) → Some (key, k) ≡ unvarint 9 bs → Some (v, n) ≡ unvarint 9 (drop k bs) → key % 8 ≡ 2 → n + v ≤ length (drop k bs)
     → IsField bs (record { number = key / 8; delimited = true; value = v; head = k + n; size = (k + n) + v })
@@ -117,19 +120,20 @@ is-bytes bs key k v n h j two l =
     let plen : length pay ≡ v = length-take-le (((k + n) + v) - (k + n)) (drop (k + n) bs) (omega (arith, length-drop k bs, length-drop (k + n) bs)) ∙ diff in
     let cut : drop (k + n) bs ≡ pay ++ drop ((k + n) + v) bs = sym (take-append-drop (((k + n) + v) - (k + n)) (drop (k + n) bs)) ∙ ap (λ (x : List ℕ). pay ++ x) (ap (λ (x : ℕ). drop x (drop (k + n) bs)) diff ∙ drop-drop v (k + n) bs) in
     let whole : bs ≡ varint (8 * (key / 8) + 2) ++ (varint (length pay) ++ (pay ++ drop ((k + n) + v) bs)) =
-        both bs key k v n a b ∙ ap (λ (x : List ℕ). varint key ++ (varint v ++ x)) cut
-        ∙ ap (λ (x : ℕ). varint x ++ (varint v ++ (pay ++ drop ((k + n) + v) bs))) (sym eight)
-        ∙ ap (λ (x : ℕ). varint (8 * (key / 8) + 2) ++ (varint x ++ (pay ++ drop ((k + n) + v) bs))) (sym plen) in
+    both bs key k v n a b ∙ ap (λ (x : List ℕ). varint key ++ (varint v ++ x)) cut
+    ∙ ap (λ (x : ℕ). varint x ++ (varint v ++ (pay ++ drop ((k + n) + v) bs))) (sym eight)
+    ∙ ap (λ (x : ℕ). varint (8 * (key / 8) + 2) ++ (varint x ++ (pay ++ drop ((k + n) + v) bs))) (sym plen) in
     let sum : length (varint (8 * (key / 8) + 2) ++ (varint (length pay) ++ pay)) ≡ (k + n) + v =
-        length-append (varint (8 * (key / 8) + 2)) (varint (length pay) ++ pay)
-        ∙ ap (λ (x : ℕ). length (varint (8 * (key / 8) + 2)) + x) (length-append (varint (length pay)) pay)
-        ∙ ap (λ (x : ℕ). length (varint x) + (length (varint (length pay)) + length pay)) eight
-        ∙ ap (λ (x : ℕ). length (varint key) + (length (varint x) + x)) plen
-        ∙ omega (arith, a .size, b .size) in
+    length-append (varint (8 * (key / 8) + 2)) (varint (length pay) ++ pay)
+    ∙ ap (λ (x : ℕ). length (varint (8 * (key / 8) + 2)) + x) (length-append (varint (length pay)) pay)
+    ∙ ap (λ (x : ℕ). length (varint x) + (length (varint (length pay)) + length pay)) eight
+    ∙ ap (λ (x : ℕ). length (varint key) + (length (varint x) + x)) plen
+    ∙ omega (arith, a .size, b .size) in
     record {
       front = whole ∙ sym (shape (bytes (key / 8) pay) (drop ((k + n) + v) bs));
       size = sym sum;
       small = (omega (arith, a .small, cap-nine), omega (arith, b .small, cap-nine));
       within = omega (arith, length-drop k bs, a .within);
       ahead = omega arith;
-      some = omega (arith, a .some) }
+      some = omega (arith, a .some);
+    }

@@ -24,8 +24,9 @@ ordered-join K lo k hi (f ∷ A) B l m a b = (a .0, omega (arith, a .1), a .2, a
 
 pub join : {K : Field → Bool} {k hi m n : ℕ} {A B : List Field} → k ≤ hi → Sound K k k m A → Sound K (suc k) hi n B → Sound K k hi (m + n) (A ++ B)
 join {K} {k} {hi} {m} {n} {A} {B} l a b = record {
-    ordered = ordered-join K k k hi A B l (omega arith) (a .ordered) (b .ordered);
-    size = omega (arith, encode-length A B, a .size, b .size) }
+  ordered = ordered-join K k k hi A B l (omega arith) (a .ordered) (b .ordered);
+  size = omega (arith, encode-length A B, a .size, b .size);
+}
 
 pub from-one : {K : Field → Bool} {lo hi m : ℕ} {A : List Field} → 1 ≤ lo → Sound K lo hi m A → Sound K 1 hi m A
 from-one {K} {lo} {hi} {m} {A} l a = record { ordered = lower K lo 1 hi A l (a .ordered); size = a .size }
@@ -56,11 +57,12 @@ part-step {R} {K} {k} {P} {Q} v true old new f n same h =
     ap (λ x. x ++ Q new) h ∙ ap (λ x. (P old ++ (f ∷ [])) ++ x) same ∙ append-assoc (P old) (f ∷ []) (Q old)
     ∙ sym (ap (λ x. x ++ (f ∷ past (numberOf f) (P old ++ Q old))) (c .0) ∙ ap (λ x. P old ++ (f ∷ x)) (c .1))
 part-step {R} {K} {k} {P} {Q} v false old new f n same h =
-    let c = subst (λ (j : ℕ). (upTo j (P old ++ Q old) ≡ P old) × (past j (P old ++ Q old) ≡ Q old)) (sym n) (cut-here v old) in
-    (ap (λ x. x ++ Q new) (h .0) ∙ ap (λ x. P old ++ x) same,
-     λ s gs e.
-       let u = covers K k k 15 (P old) (P s) (Q s) f gs (v .here old) (v .after s) n (e ∙ ap (λ x. x ++ (f ∷ gs)) (c .0)) in
-       h .1 s (u .0) tt (u .1))
+    let c = subst (λ (j : ℕ). (upTo j (P old ++ Q old) ≡ P old) × (past j (P old ++ Q old) ≡ Q old)) (sym n) (cut-here v old) in (
+      ap (λ x. x ++ Q new) (h .0) ∙ ap (λ x. P old ++ x) same,
+      λ s gs e.
+          let u = covers K k k 15 (P old) (P s) (Q s) f gs (v .here old) (v .after s) n (e ∙ ap (λ x. x ++ (f ∷ gs)) (c .0)) in
+          h .1 s (u .0) tt (u .1),
+    )
 
 -- of the member π, which the first part is written of
 pub first : {R V : Type 0} {K : Field → Bool} {k : ℕ} {P Q : R → List Field} → Level K k P Q → (part : V → List Field) (In : V → Type 0) (π : R → V) → ((r : R) → In (π r)) → ((r : R) → part (π r) ≡ P r)
@@ -79,11 +81,12 @@ rest {R} {K} {k} {P} {Q} v true old new f n same h =
     ap (λ x. x ++ Q new) same ∙ ap (λ x. P old ++ x) h ∙ sym (append-assoc (P old) (upTo (numberOf f) (Q old)) (f ∷ past (numberOf f) (Q old)))
     ∙ sym (ap (λ x. x ++ (f ∷ past (numberOf f) (P old ++ Q old))) (a .0) ∙ ap (λ x. (P old ++ upTo (numberOf f) (Q old)) ++ (f ∷ x)) (a .1))
 rest {R} {K} {k} {P} {Q} v false old new f n same h =
-    let a = upTo-append K k k (numberOf f) (P old) (Q old) (v .here old) (omega arith) in
-    (ap (λ x. x ++ Q new) same ∙ ap (λ x. P old ++ x) (h .0),
-     λ s gs e. h .1 s gs
-       (split-later K k k 15 (P old) (P s) (Q s) (upTo (numberOf f) (Q old)) f gs (v .here old) (v .here s) (v .after s) (upTo-above K k 15 (numberOf f) (Q old) (v .after old)) n
-         (e ∙ ap (λ x. x ++ (f ∷ gs)) (a .0) ∙ append-assoc (P old) (upTo (numberOf f) (Q old)) (f ∷ gs))))
+    let a = upTo-append K k k (numberOf f) (P old) (Q old) (v .here old) (omega arith) in (
+      ap (λ x. x ++ Q new) same ∙ ap (λ x. P old ++ x) (h .0),
+      λ s gs e. h .1 s gs
+          (split-later K k k 15 (P old) (P s) (Q s) (upTo (numberOf f) (Q old)) f gs (v .here old) (v .here s) (v .after s) (upTo-above K k 15 (numberOf f) (Q old) (v .after old)) n
+          (e ∙ ap (λ x. x ++ (f ∷ gs)) (a .0) ∙ append-assoc (P old) (upTo (numberOf f) (Q old)) (f ∷ gs))),
+    )
 
 all-mid : {X : Type 0} (P : X → Type 0) (xs : List X) (x : X) (ys : List X) → All P (xs ++ (x ∷ ys)) → P x
 all-mid P [] x ys h = h .0
@@ -92,11 +95,14 @@ all-mid P (y ∷ xs) x ys h = all-mid P xs x ys (h .1)
 -- a field that the record does not know
 pub unknown : {R : Type 0} (fields : R → List Field) (K : Field → Bool) (most : ℕ) → ((r : R) → Sound K 1 15 most (fields r)) → (old new : R) (f : Field) → K f ≡ false → fields new ≡ fields old
     → Took fields false old new f
-unknown fields K most sound old new f unk same = (same, λ s gs e.
-    let y = all-mid (λ g. (1 ≤ numberOf g) × (numberOf g ≤ 15) × (K g ≡ true)) (upTo (numberOf f) (fields old)) f gs (subst (All (λ g. (1 ≤ numberOf g) × (numberOf g ≤ 15) × (K g ≡ true))) e (within K 1 15 (fields s) (sound s .ordered))) in
-    let z : true ≡ false = sym (y .2) ∙ unk in
-    let w : _≡_ {A = ℕ} 0 1 = cc in
-    omega arith)
+unknown fields K most sound old new f unk same = (
+  same,
+  λ s gs e.
+      let y = all-mid (λ g. (1 ≤ numberOf g) × (numberOf g ≤ 15) × (K g ≡ true)) (upTo (numberOf f) (fields old)) f gs (subst (All (λ g. (1 ≤ numberOf g) × (numberOf g ≤ 15) × (K g ≡ true))) e (within K 1 15 (fields s) (sound s .ordered))) in
+      let z : true ≡ false = sym (y .2) ∙ unk in
+      let w : _≡_ {A = ℕ} 0 1 = cc in
+      omega arith,
+)
 
 -- at the number that the code tested for
 pub at-number : {R : Type 0} (fields : R → List Field) (b : Bool) (old new : R) (k n v : ℕ) → k ≡ n → Took fields b old new (number n v) → Took fields b old new (number k v)

@@ -31,8 +31,9 @@ unfolding base128 lim
 short j zero v h = omega arith
 short zero (suc k) v h = rw (lt-ltb v 128 h) (omega arith)
 short (suc j) (suc k) v h = elim (cases-lt v 128) [
-    inl l ↦ rw (lt-ltb v 128 l) (omega arith)
-  | inr g ↦ rw (le-ltb v 128 g) (omega (arith, short j k (v / 128) (omega arith))) ]
+  | inl l ↦ rw (lt-ltb v 128 l) (omega arith)
+  | inr g ↦ rw (le-ltb v 128 g) (omega (arith, short j k (v / 128) (omega arith)))
+]
 
 -- numbers up to n take at most w bytes
 abbrev pub Wide : ℕ → ℕ → Type 0
@@ -58,14 +59,16 @@ ten-bytes v h = short 9 9 v (omega arith)
 number-sound : (K : Field → Bool) (k v n : ℕ) → 1 ≤ k → k ≤ 15 → K (number k v) ≡ true → v < 2 ^ 64 → length (varint v) ≤ n → Sound K k k (1 + n) (number k v ∷ [])
 unfolding Ordered Small encodeField
 number-sound K k v n l m kn fit sz = record {
-    ordered = (omega arith, omega arith, kn, (omega arith, fit), tt);
-    size = omega (arith, ap length (encode-one (number k v)), length-append (varint (8 * k)) (varint v), one-byte {n = 120} (omega arith) (8 * k) (omega arith)) }
+  ordered = (omega arith, omega arith, kn, (omega arith, fit), tt);
+  size = omega (arith, ap length (encode-one (number k v)), length-append (varint (8 * k)) (varint v), one-byte {n = 120} (omega arith) (8 * k) (omega arith));
+}
 
 pub bytes-sound : (K : Field → Bool) (k n w : ℕ) (b : List ℕ) → 1 ≤ k → k ≤ 15 → K (bytes k b) ≡ true → n < 2 ^ 64 → length b ≤ n → Wide n w → Sound K k k (1 + w + n) (bytes k b ∷ [])
 unfolding Ordered Small encodeField
 bytes-sound K k n w b l m kn fit le wide = record {
-    ordered = (omega arith, omega arith, kn, (omega arith, omega arith), tt);
-    size = omega (arith, ap length (encode-one (bytes k b)), length-append (varint (8 * k + 2)) (varint (length b) ++ b), length-append (varint (length b)) b, one-byte {n = 122} (omega arith) (8 * k + 2) (omega arith), wide (length b) le) }
+  ordered = (omega arith, omega arith, kn, (omega arith, omega arith), tt);
+  size = omega (arith, ap length (encode-one (bytes k b)), length-append (varint (8 * k + 2)) (varint (length b) ++ b), length-append (varint (length b)) b, one-byte {n = 122} (omega arith) (8 * k + 2) (omega arith), wide (length b) le);
+}
 
 wider : {K : Field → Bool} {k : ℕ} (n : ℕ) → Sound K k k n []
 unfolding Ordered encode
@@ -103,8 +106,10 @@ each-sound K k n w fields [] l m kn fit le wide = wider _
 each-sound K k n w fields (r ∷ rs) l m kn fit le wide =
     let one = bytes-sound K k n w (encode (fields r)) l m (kn (encode (fields r))) fit (le r) wide in
     let more = each-sound K k n w fields rs l m kn fit le wide in
-    record { ordered = (one .ordered .0, one .ordered .1, one .ordered .2, one .ordered .3, more .ordered);
-             size = omega (arith, length-append (encodeField (bytes k (encode (fields r)))) (encode (each fields k rs)), ap length (encode-one (bytes k (encode (fields r)))), one .size, more .size, mul-suc (1 + w + n) (length rs)) }
+    record {
+      ordered = (one .ordered .0, one .ordered .1, one .ordered .2, one .ordered .3, more .ordered);
+      size = omega (arith, length-append (encodeField (bytes k (encode (fields r)))) (encode (each fields k rs)), ap length (encode-one (bytes k (encode (fields r)))), one .size, more .size, mul-suc (1 + w + n) (length rs));
+    }
 
 -- equal fields are of equal members
 pub text-told : (k : ℕ) (u v : List ℕ) → text k u ≡ text k v → u ≡ v

@@ -31,8 +31,9 @@ unfolding cap
 cap-le k zero h = let e : k ≡ 0 = omega arith in subst (λ (x : ℕ). cap x ≤ 2) (sym e) (omega arith)
 cap-le k (suc j) h =
     elim (cases-lt k (suc j)) [
-      inl l ↦ let i = cap-le k j (omega arith) in omega arith
-    | inr g ↦ let e : k ≡ suc j = omega arith in subst (λ (x : ℕ). cap x ≤ cap (suc j)) (sym e) (omega arith) ]
+      | inl l ↦ let i = cap-le k j (omega arith) in omega arith
+      | inr g ↦ let e : k ≡ suc j = omega arith in subst (λ (x : ℕ). cap x ≤ cap (suc j)) (sym e) (omega arith)
+    ]
 
 pub cap-one : cap 1 ≡ 256
 unfolding cap
@@ -56,7 +57,7 @@ pub complete : (k v : ℕ) (rest : List ℕ) → v < cap k → unvarint k (base1
 unfolding unvarint base128 cap
 complete zero v rest h = let a : v < 128 = omega arith in rw (lt-ltb v 128 a, lt-ltb v 2 h)
 complete (suc k) v rest h = elim (cases-lt v 128) [
-    inl l ↦ let nz : suc k ≡ 0 → ⊥ = λ e. omega arith in rw (lt-ltb v 128 l) (rw (lt-ltb v 128 l, ne-eqb (suc k) 0 nz) refl)
+  | inl l ↦ let nz : suc k ≡ 0 → ⊥ = λ e. omega arith in rw (lt-ltb v 128 l) (rw (lt-ltb v 128 l, ne-eqb (suc k) 0 nz) refl)
   | inr g ↦
       let b : 128 ≤ v % 128 + 128 = omega arith in
       let ih = complete k (v / 128) rest (omega arith) in
@@ -65,8 +66,8 @@ complete (suc k) v rest h = elim (cases-lt v 128) [
       let val : (v % 128 + 128 - 128) + 128 * (v / 128) ≡ v = omega arith in
       let byte : v % 128 + 128 < 256 = omega arith in
       let sz : suc k ≡ 0 → ⊥ = λ e. omega arith in
-      rw (le-ltb v 128 g) (rw (le-ltb (v % 128 + 128) 128 b, ne-eqb (suc k) 0 sz, lt-ltb (v % 128 + 128) 256 byte, s, ih, ne-eqb (v / 128) 0 nz, val, add-one)) ]
-
+      rw (le-ltb v 128 g) (rw (le-ltb (v % 128 + 128) 128 b, ne-eqb (suc k) 0 sz, lt-ltb (v % 128 + 128) 256 byte, s, ih, ne-eqb (v / 128) 0 nz, val, add-one))
+]
 
 abbrev pub first : Option (ℕ × ℕ) → ℕ
 first (Some p) = p .0
@@ -84,8 +85,9 @@ pub sound : (k : ℕ) (bs : List ℕ) (v n : ℕ) → unvarint k bs ≡ Some (v,
 unfolding unvarint
 sound k [] v n h = absurd (none-some (v, n) h)
 sound k (b ∷ bs) v n h = elim (cases-lt b 128) [
-    inl l ↦ last l (rw (lt-ltb b 128 l) at h)
-  | inr g ↦ longer g (rw (le-ltb b 128 g) at h) (sound (k - 1) bs) ]
+  | inl l ↦ last l (rw (lt-ltb b 128 l) at h)
+  | inr g ↦ longer g (rw (le-ltb b 128 g) at h) (sound (k - 1) bs)
+]
   where
     ended : b < 128 → b < cap k → _≡_ {A = Option (ℕ × ℕ)} (Some (b, 1)) (Some (v, n)) → Reads k (b ∷ bs) v n
     ended l m e =
@@ -93,18 +95,22 @@ sound k (b ∷ bs) v n h = elim (cases-lt b 128) [
         let en : 1 ≡ n = ap second e in
         let at : base128 k v ≡ v ∷ [] = base128-last k v (omega arith) (omega arith) in
         subst (λ (m : ℕ). Reads k (b ∷ bs) v m) en
-          (record { small = omega arith; front = cc; size = sym (ap length at); within = omega arith; some = omega arith })
+        (record { small = omega arith; front = cc; size = sym (ap length at); within = omega arith; some = omega arith })
+
     last : b < 128 → lastByte k b ≡ Some (v, n) → Reads k (b ∷ bs) v n
     last l e = elim (cases-eq k 0) [
-        inl z ↦ elim (cases-lt b 2) [
-            inl m ↦ ended l (subst (λ (x : ℕ). b < cap x) (sym z) (unfold cap in m)) (rw (eq-eqb k 0 z, lt-ltb b 2 m) at e)
-          | inr m ↦ absurd (none-some (v, n) (rw (eq-eqb k 0 z, le-ltb b 2 m) at e)) ]
-      | inr z ↦ ended l (omega (arith, cap-le 1 k (omega arith), cap-one)) (rw (ne-eqb k 0 z) at e) ]
+      | inl z ↦ elim (cases-lt b 2) [
+        | inl m ↦ ended l (subst (λ (x : ℕ). b < cap x) (sym z) (unfold cap in m)) (rw (eq-eqb k 0 z, lt-ltb b 2 m) at e)
+        | inr m ↦ absurd (none-some (v, n) (rw (eq-eqb k 0 z, le-ltb b 2 m) at e))
+      ]
+      | inr z ↦ ended l (omega (arith, cap-le 1 k (omega arith), cap-one)) (rw (ne-eqb k 0 z) at e)
+    ]
+
     go : 128 ≤ b → b < 256 → 0 < k → (o : Option (ℕ × ℕ)) → unvarint (k - 1) bs ≡ o → moreBytes b o ≡ Some (v, n)
         → ((w m : ℕ) → unvarint (k - 1) bs ≡ Some (w, m) → Reads (k - 1) bs w m) → Reads k (b ∷ bs) v n
     go g t p None u e ih = absurd (none-some (v, n) e)
     go g t p (Some q) u e ih = elim (cases-eq (q .0) 0) [
-        inl z ↦ absurd (none-some (v, n) (rw (eq-eqb (q .0) 0 z) at e))
+      | inl z ↦ absurd (none-some (v, n) (rw (eq-eqb (q .0) 0 z) at e))
       | inr z ↦
           let eq : _≡_ {A = Option (ℕ × ℕ)} (Some ((b - 128) + 128 * q .0, q .1 + 1)) (Some (v, n)) = rw (ne-eqb (q .0) 0 z) at e in
           let ev : (b - 128) + 128 * q .0 ≡ v = ap first eq in
@@ -116,18 +122,24 @@ sound k (b ∷ bs) v n h = elim (cases-lt b 128) [
           let dig : base128 k v ≡ b ∷ base128 (k - 1) (q .0) = sym (ap (λ (x : ℕ). base128 x v) kk) ∙ base128-more (k - 1) v (omega arith) ∙ cc in
           let room : cap k ≡ 128 * cap (k - 1) = sym (ap cap kk) ∙ cap-suc (k - 1) in
           let rest : drop n (b ∷ bs) ≡ drop (q .1) bs = ap (λ (x : ℕ). drop x (b ∷ bs)) (sym en) ∙ (simp add-one) in
-          record { small = omega (arith, i .small);
-                   front = ap (λ (x : List ℕ). b ∷ x) (i .front) ∙ cc;
-                   size = sym en ∙ ap (λ (x : ℕ). x + 1) (i .size) ∙ (simp add-one) ∙ sym (ap length dig);
-                   within = omega (arith, i .within); some = omega arith }
-      ]
+          record {
+            small = omega (arith, i .small);
+            front = ap (λ (x : List ℕ). b ∷ x) (i .front) ∙ cc;
+            size = sym en ∙ ap (λ (x : ℕ). x + 1) (i .size) ∙ (simp add-one) ∙ sym (ap length dig);
+            within = omega (arith, i .within);
+            some = omega arith;
+          }
+    ]
+
     longer : 128 ≤ b → cond (eqb k 0) None (cond (ltb b 256) (moreBytes b (unvarint (k - 1) bs)) None) ≡ Some (v, n)
         → ((w m : ℕ) → unvarint (k - 1) bs ≡ Some (w, m) → Reads (k - 1) bs w m) → Reads k (b ∷ bs) v n
     longer g e ih = elim (cases-eq k 0) [
-        inl z ↦ absurd (none-some (v, n) (rw (eq-eqb k 0 z) at e))
+      | inl z ↦ absurd (none-some (v, n) (rw (eq-eqb k 0 z) at e))
       | inr z ↦ elim (cases-lt b 256) [
-            inl t ↦ go g t (omega arith) (unvarint (k - 1) bs) refl (rw (ne-eqb k 0 z, lt-ltb b 256 t) at e) ih
-          | inr t ↦ absurd (none-some (v, n) (rw (ne-eqb k 0 z, le-ltb b 256 t) at e)) ] ]
+        | inl t ↦ go g t (omega arith) (unvarint (k - 1) bs) refl (rw (ne-eqb k 0 z, lt-ltb b 256 t) at e) ih
+        | inr t ↦ absurd (none-some (v, n) (rw (ne-eqb k 0 z, le-ltb b 256 t) at e))
+      ]
+    ]
 
 -- the steps of the code, one by one
 pub un-none : (k : ℕ) (bs : List ℕ) → length bs ≡ 0 → None ≡ unvarint k bs

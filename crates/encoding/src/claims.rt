@@ -6,7 +6,6 @@ ghost use Rattle.encoding.specs.Wire.{encode};
 ghost use Rattle.encoding.specs.Messages.{Unwritten, Wrote};
 ghost use Rattle.encoding.specs.Claims.{EveryRecord, EmptyKeyset, OneDestroyedKey};
 ghost use Rattle.encoding.specs.Limits.{EveryLimit};
-
 use crate::message::Message;
 use crate::message::read;
 use crate::message::write;

@@ -10,7 +10,6 @@ ghost use Rattle.encoding.specs.Wire.{number, bytes};
 ghost use Rattle.encoding.specs.Members.{unsigned, signed, text, present, each};
 ghost use Rattle.encoding.specs.Lists.{list};
 ghost use Rattle.encoding.specs.Messages.{Filled};
-
 use crate::bounded::Bounded;
 use crate::message::Message;
 use crate::message::read;
@@ -100,7 +99,10 @@ pub(crate) fn fill_record<R: Message>(slot: &mut Option<R>, payload: &[u8]) -> b
     }
 }
 
-pub(crate) fn push_record<R: Message, const N: usize>(slot: &mut Bounded<R, N>, payload: &[u8]) -> bool
+pub(crate) fn push_record<R: Message, const N: usize>(
+    slot: &mut Bounded<R, N>,
+    payload: &[u8],
+) -> bool
     ensures { λ r. ⌜ ((k : ℕ) → Filled (λ b. each (R·Message .fields) k (list b)) (λ _. Unit {0}) r (now (slot .entry)) (now (slot .exit)) (bytes k (now (payload .entry)))) ⌝ }
 {
     let Ok(made) = read::<R>(payload) else {

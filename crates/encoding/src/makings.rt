@@ -8,7 +8,6 @@ ghost use Rattle.ciphers.specs.declared.fault.Layer.the-variants.{Encoding};
 ghost use Rattle.encoding.specs.Meanings.{keyDataOf, keyTemplateOf, keysetOf};
 ghost use Rattle.encoding.specs.Limits.{KeyDataWithin, KeyTemplateWithin};
 ghost use Rattle.encoding.specs.Views.{keyDataView, keyTemplateView, keysetView};
-
 use crate::bounded::Bounded;
 use crate::records::Key;
 use crate::records::KeyData;
@@ -26,7 +25,11 @@ impl KeyData {
     {
         let type_url = TypeUrl::new(url)?;
         let value = Bounded::from_slice(value, 0)?;
-        Ok(KeyData { type_url, value, key_material_type: material })
+        Ok(KeyData {
+            type_url,
+            value,
+            key_material_type: material,
+        })
     }
 }
 
@@ -39,7 +42,11 @@ impl KeyTemplate {
     {
         let type_url = TypeUrl::new(url)?;
         let value = Bounded::from_slice(value, 0)?;
-        Ok(KeyTemplate { type_url, value, output_prefix_type: prefix })
+        Ok(KeyTemplate {
+            type_url,
+            value,
+            output_prefix_type: prefix,
+        })
     }
 }
 
@@ -48,7 +55,15 @@ impl Keyset {
     pub fn new() -> Keyset
         ensures { λ r. ⌜ keysetView r ≡ keysetOf 0 [] ⌝ }
     {
-        let blank = Key { key_data: None, status: 0, key_id: 0, output_prefix_type: 0 };
-        Keyset { primary_key_id: 0, key: Bounded::empty(blank) }
+        let blank = Key {
+            key_data: None,
+            status: 0,
+            key_id: 0,
+            output_prefix_type: 0,
+        };
+        Keyset {
+            primary_key_id: 0,
+            key: Bounded::empty(blank),
+        }
     }
 }

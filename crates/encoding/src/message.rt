@@ -13,7 +13,6 @@ ghost use Rattle.ciphers.specs.declared.fault.Layer.the-variants.{Encoding};
 ghost use Rattle.encoding.specs.Wire.{Field, number, bytes, encode};
 ghost use Rattle.encoding.specs.Laying.{Laid};
 ghost use Rattle.encoding.specs.Messages.{Sound, Took, Unread, Unwritten, Wrote, lastOf, Went, Stuck};
-
 use crate::scan::Piece;
 use crate::scan::scan;
 use ciphers::fault::Fault;

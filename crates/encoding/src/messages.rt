@@ -3,7 +3,6 @@ ghost use mathlib.Core.Path.{_≡_};
 ghost use Rattle.encoding.specs.Known.{keyDataKnows, keyTemplateKnows, keyKnows, keysetKnows, keyInfoKnows, keysetInfoKnows, encryptedKeysetKnows};
 ghost use Rattle.encoding.specs.Views.{keyDataView, keyTemplateView, keyView, keysetView, keyInfoView, keysetInfoView, encryptedKeysetView};
 ghost use Rattle.encoding.specs.Views.{fieldsOfKeyData, fieldsOfKeyTemplate, fieldsOfKey, fieldsOfKeyset, fieldsOfKeyInfo, fieldsOfKeysetInfo, fieldsOfEncryptedKeyset};
-
 use crate::bounded::Bounded;
 use crate::fill::fill_bytes;
 use crate::fill::fill_record;
@@ -42,7 +41,11 @@ pub impl Message for KeyData as KeyDataMessage {
     }
 
     fn empty() -> KeyData {
-        KeyData { type_url: TypeUrl::empty(), value: Bounded::empty(0), key_material_type: 0 }
+        KeyData {
+            type_url: TypeUrl::empty(),
+            value: Bounded::empty(0),
+            key_material_type: 0,
+        }
     }
 
     fn add_number(&mut self, field: u64, value: u64) -> bool {
@@ -83,7 +86,11 @@ pub impl Message for KeyTemplate as KeyTemplateMessage {
     }
 
     fn empty() -> KeyTemplate {
-        KeyTemplate { type_url: TypeUrl::empty(), value: Bounded::empty(0), output_prefix_type: 0 }
+        KeyTemplate {
+            type_url: TypeUrl::empty(),
+            value: Bounded::empty(0),
+            output_prefix_type: 0,
+        }
     }
 
     fn add_number(&mut self, field: u64, value: u64) -> bool {
@@ -124,7 +131,12 @@ pub impl Message for Key as KeyMessage {
     }
 
     fn empty() -> Key {
-        Key { key_data: None, status: 0, key_id: 0, output_prefix_type: 0 }
+        Key {
+            key_data: None,
+            status: 0,
+            key_id: 0,
+            output_prefix_type: 0,
+        }
     }
 
     fn add_number(&mut self, field: u64, value: u64) -> bool {
@@ -167,7 +179,15 @@ pub impl Message for Keyset as KeysetMessage {
     }
 
     fn empty() -> Keyset {
-        Keyset { primary_key_id: 0, key: Bounded::empty(Key { key_data: None, status: 0, key_id: 0, output_prefix_type: 0 }) }
+        Keyset {
+            primary_key_id: 0,
+            key: Bounded::empty(Key {
+                key_data: None,
+                status: 0,
+                key_id: 0,
+                output_prefix_type: 0,
+            }),
+        }
     }
 
     fn add_number(&mut self, field: u64, value: u64) -> bool {
@@ -206,7 +226,12 @@ pub impl Message for KeyInfo as KeyInfoMessage {
     }
 
     fn empty() -> KeyInfo {
-        KeyInfo { type_url: TypeUrl::empty(), status: 0, key_id: 0, output_prefix_type: 0 }
+        KeyInfo {
+            type_url: TypeUrl::empty(),
+            status: 0,
+            key_id: 0,
+            output_prefix_type: 0,
+        }
     }
 
     fn add_number(&mut self, field: u64, value: u64) -> bool {
@@ -251,7 +276,12 @@ pub impl Message for KeysetInfo as KeysetInfoMessage {
     fn empty() -> KeysetInfo {
         KeysetInfo {
             primary_key_id: 0,
-            key_info: Bounded::empty(KeyInfo { type_url: TypeUrl::empty(), status: 0, key_id: 0, output_prefix_type: 0 }),
+            key_info: Bounded::empty(KeyInfo {
+                type_url: TypeUrl::empty(),
+                status: 0,
+                key_id: 0,
+                output_prefix_type: 0,
+            }),
         }
     }
 
@@ -291,7 +321,10 @@ pub impl Message for EncryptedKeyset as EncryptedKeysetMessage {
     }
 
     fn empty() -> EncryptedKeyset {
-        EncryptedKeyset { encrypted_keyset: Bounded::empty(0), keyset_info: None }
+        EncryptedKeyset {
+            encrypted_keyset: Bounded::empty(0),
+            keyset_info: None,
+        }
     }
 
     fn add_number(&mut self, _field: u64, _value: u64) -> bool {

@@ -8,7 +8,6 @@ ghost use Rattle.encoding.specs.Wire.{varint, bytes, encodeField, encode};
 ghost use Rattle.encoding.specs.Members.{unsigned, signed, text, present, each};
 ghost use Rattle.encoding.specs.Lists.{list};
 ghost use Rattle.encoding.specs.Laying.{Laid};
-
 use crate::bounded::Bounded;
 use crate::message::Message;
 use crate::message::encoded_len;
@@ -18,7 +17,11 @@ use crate::varint::put_varint;
 pub(crate) fn wide(x: i32) -> u64
     ensures { λ r. ⌜ r ≡ ofZ w64 x ⌝ }
 {
-    if x >= 0 { x as u64 } else { u64::MAX - (-1 - x) as u64 }
+    if x >= 0 {
+        x as u64
+    } else {
+        u64::MAX - (-1 - x) as u64
+    }
 }
 
 pub(crate) fn put_raw(out: &mut [u8], at: usize, from: &[u8]) -> usize
@@ -83,7 +86,12 @@ fn put_record<R: Message>(out: &mut [u8], at: usize, field: u64, inner: &R) -> u
     inner.put(out, next)
 }
 
-pub(crate) fn put_present<R: Message>(out: &mut [u8], at: usize, field: u64, inner: &Option<R>) -> usize
+pub(crate) fn put_present<R: Message>(
+    out: &mut [u8],
+    at: usize,
+    field: u64,
+    inner: &Option<R>,
+) -> usize
     requires { ⌜ field < 16 ⌝ }
     ensures { λ r. ⌜ Laid (encode (present (R·Message .fields) field (now (inner .entry)))) (now (out .entry)) at (now (out .exit)) r ⌝ }
 {
@@ -93,7 +101,12 @@ pub(crate) fn put_present<R: Message>(out: &mut [u8], at: usize, field: u64, inn
     }
 }
 
-pub(crate) fn put_each<R: Message, const N: usize>(out: &mut [u8], at: usize, field: u64, all: &Bounded<R, N>) -> usize
+pub(crate) fn put_each<R: Message, const N: usize>(
+    out: &mut [u8],
+    at: usize,
+    field: u64,
+    all: &Bounded<R, N>,
+) -> usize
     requires { ⌜ field < 16 ⌝ }
     ensures { λ r. ⌜ Laid (encode (each (R·Message .fields) field (list (now (all .entry))))) (now (out .entry)) at (now (out .exit)) r ⌝ }
 {

@@ -2,7 +2,6 @@
 // A record outside the limits cannot be made: 16 keys, type URLs of 64 bytes, values of 128, an encrypted keyset of 4,160.
 ghost use Prim.Native.Nat.{_^_, _<_};
 ghost use lib.Signed.{mag};
-
 use crate::bounded::Bounded;
 use crate::url::TypeUrl;
 

@@ -1,7 +1,6 @@
 // Splitting bytes into fields.
 ghost use Rattle.std.specs.Options.{Cases as BySome};
 ghost use Rattle.encoding.specs.Scanning.{NoField, IsField};
-
 use crate::varint::take_varint;
 
 // A field at the front of some bytes: its number, whether it is length-delimited, a number's value, and where its payload
@@ -27,7 +26,13 @@ pub(crate) fn scan(bytes: &[u8]) -> Option<Piece>
     };
     let number = key / 8;
     if key % 8 == 0 {
-        return Some(Piece { number, delimited: false, value, head: k, size: k + n });
+        return Some(Piece {
+            number,
+            delimited: false,
+            value,
+            head: k,
+            size: k + n,
+        });
     }
     if key % 8 != 2 {
         return None;
@@ -35,5 +40,11 @@ pub(crate) fn scan(bytes: &[u8]) -> Option<Piece>
     if value > (rest.len() - n) as u64 {
         return None;
     }
-    Some(Piece { number, delimited: true, value, head: k + n, size: k + n + value as usize })
+    Some(Piece {
+        number,
+        delimited: true,
+        value,
+        head: k + n,
+        size: k + n + value as usize,
+    })
 }

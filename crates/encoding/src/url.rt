@@ -11,7 +11,6 @@ ghost use Rattle.ciphers.specs.Faults.{fault};
 ghost use Rattle.ciphers.specs.declared.fault.Refusal.the-variants.{BreaksEncoding};
 ghost use Rattle.ciphers.specs.declared.fault.Layer.the-variants.{Encoding};
 ghost use Rattle.encoding.specs.Lists.{list, unused, visible, visibleByte};
-
 use crate::bounded::Bounded;
 use ciphers::fault::Fault;
 use ciphers::fault::Layer;
@@ -35,7 +34,9 @@ impl TypeUrl {
     pub fn empty() -> TypeUrl
         ensures { λ r. ⌜ list (r .text) ≡ [] ⌝ }
     {
-        TypeUrl { text: Bounded::empty(0) }
+        TypeUrl {
+            text: Bounded::empty(0),
+        }
     }
 
     // The type URL with these bytes, or a refusal if they break a limit.

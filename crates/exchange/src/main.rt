@@ -104,12 +104,20 @@ fn counted(tally: Tally, accepted: bool, same: bool, len: usize) -> Tally {
         accepted: tally.accepted.saturating_add(if accepted { 1 } else { 0 }),
         refused: tally.refused.saturating_add(if accepted { 0 } else { 1 }),
         differ: tally.differ.saturating_add(if same { 0 } else { 1 }),
-        longest: if accepted { tally.longest.max(len) } else { tally.longest },
+        longest: if accepted {
+            tally.longest.max(len)
+        } else {
+            tally.longest
+        },
     }
 }
 
 // One line of the list: the tally's place, whether it was accepted, how long it is, and what the library said where that differs.
-fn judge(heap: Global, line: &str, out: &mut [u8]) -> Result<Option<(usize, bool, usize, Option<String>)>, AllocError> {
+fn judge(
+    heap: Global,
+    line: &str,
+    out: &mut [u8],
+) -> Result<Option<(usize, bool, usize, Option<String>)>, AllocError> {
     let mut words = line.splitn(3, ' ');
     let Some(name) = words.next() else {
         return Ok(None);
@@ -147,7 +155,12 @@ fn name_of(kind: usize) -> (&'static str, usize) {
 
 fn replay(rt: &LibcRuntime, text: &str, out: &mut [u8]) -> Result<(), AnyError> {
     let heap = rt.alloc();
-    let mut tallies = [Tally { accepted: 0, refused: 0, differ: 0, longest: 0 }; 7];
+    let mut tallies = [Tally {
+        accepted: 0,
+        refused: 0,
+        differ: 0,
+        longest: 0,
+    }; 7];
     let mut told = false;
     for line in text.lines() {
         let Some((kind, accepted, len, other)) = judge(heap, line, out)? else {
@@ -171,7 +184,10 @@ fn replay(rt: &LibcRuntime, text: &str, out: &mut [u8]) -> Result<(), AnyError> 
         let refused = tally.refused;
         let differ = tally.differ;
         let longest = tally.longest;
-        println!(rt, "{name}: {accepted} accepted, {refused} refused, {differ} differ; the longest {longest} of {largest} bytes")?;
+        println!(
+            rt,
+            "{name}: {accepted} accepted, {refused} refused, {differ} differ; the longest {longest} of {largest} bytes"
+        )?;
     }
     Ok(())
 }

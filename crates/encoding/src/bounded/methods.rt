@@ -9,7 +9,6 @@ ghost use Rattle.ciphers.specs.Faults.{fault};
 ghost use Rattle.ciphers.specs.declared.fault.Refusal.the-variants.{BreaksEncoding};
 ghost use Rattle.ciphers.specs.declared.fault.Layer.the-variants.{Encoding};
 ghost use Rattle.encoding.specs.Lists.{list, unused, item};
-
 use crate::bounded::Bounded;
 use ciphers::fault::Fault;
 use ciphers::fault::Layer;
@@ -21,7 +20,10 @@ impl<T: Copy, const N: usize> Bounded<T, N> {
         ensures items { λ r. ⌜ list r ≡ [] ⌝ }
         ensures rest { λ r. ⌜ unused r ≡ replicate (N - r .len) blank ⌝ }
     {
-        Bounded { items: [blank; N], len: 0 }
+        Bounded {
+            items: [blank; N],
+            len: 0,
+        }
     }
 
     // The items of a slice, or a refusal if there are more than `N`.
@@ -64,7 +66,11 @@ impl<T: Copy, const N: usize> Bounded<T, N> {
     pub fn get(&self, at: usize) -> Option<T>
         ensures { λ r. ⌜ r ≡ item (list (now (self .entry))) at ⌝ }
     {
-        if at < self.len { Some(self.items[at]) } else { None }
+        if at < self.len {
+            Some(self.items[at])
+        } else {
+            None
+        }
     }
 
     // One more item at the end, or a refusal if the list is full.

@@ -17,4 +17,5 @@ returns g c =
     let w = c .in-Continue-n .ensures tt in
     record {
       back = back (g .R·Message .fields) (g .R·Message .knows) (λ r. g .R·Message·met .sound r .ordered) (g .R·Message .same) (g .R·Message·met .told) _ (c .args .record .now) _ (c .read .result) (wrote-front _ _ _ _ w) (c .read .ensures);
-      written = if-read _ (c .read .result) (subst (λ (n : ℕ). Wrote (encode (g .R·Message .fields (c .args .record .now))) (c .args .out .now) (c .write .last .out) n) (w .size) w) }
+      written = if-read _ (c .read .result) (subst (λ (n : ℕ). Wrote (encode (g .R·Message .fields (c .args .record .now))) (c .args .out .now) (c .write .last .out) n) (w .size) w);
+    }

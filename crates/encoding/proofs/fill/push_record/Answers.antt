@@ -12,6 +12,7 @@ pub returns-in-Ok-push : need.returns-in-Ok-push
 returns-in-Ok-push g c k = each-push (g .R·Message .fields) k (list (c .args .slot .now)) (list (c .push .last .self)) (c .in-Ok .made) _ (c .in-Ok-push .ensures tt .1) (c .in-Ok .ensures tt)
 
 pub returns-in-Err : need.returns-in-Err
-returns-in-Err g c k =
-    (ap (λ (b : Bounded (g .R .Denot) (g .N)). each (g .R·Message .fields) k (list b)) (c .in-Err .ensures tt .2),
-     λ new gs _. each-full (g .R·Message .fields) k (c .args .slot .now) new _ gs (c .in-Err .ensures tt .1))
+returns-in-Err g c k = (
+  ap (λ (b : Bounded (g .R .Denot) (g .N)). each (g .R·Message .fields) k (list b)) (c .in-Err .ensures tt .2),
+  λ new gs _. each-full (g .R·Message .fields) k (c .args .slot .now) new _ gs (c .in-Err .ensures tt .1),
+)

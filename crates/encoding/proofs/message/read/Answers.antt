@@ -16,8 +16,8 @@ loop-at-holds g c = (omega arith, ap encode (c .empty-made .ensures), sym (ap (l
 pub returns-in-rest : need.returns-in-rest
 returns-in-rest g c =
     unread (g .R·Message .fields) (c .args .input .now) (c .loop-at .at) (c .broken .result) (c .broken .ensures)
-      (place (g .R·Message .fields) (λ r. all-small _ _ _ _ (g .R·Message·met .sound r .ordered)) (c .args .input .now) (c .loop-at .at) (c .loop-at .made) (omega arith) (c .loop-at .inv .1)
-        (subst (λ (x : List ℕ). Stuck (g .R·Message .fields) (c .loop-at .made) x) (take-rest (c .args .input .now) (c .loop-at .at)) (c .in-rest .ensures tt)))
+    (place (g .R·Message .fields) (λ r. all-small _ _ _ _ (g .R·Message·met .sound r .ordered)) (c .args .input .now) (c .loop-at .at) (c .loop-at .made) (omega arith) (c .loop-at .inv .1)
+    (subst (λ (x : List ℕ). Stuck (g .R·Message .fields) (c .loop-at .made) x) (take-rest (c .args .input .now) (c .loop-at .at)) (c .in-rest .ensures tt)))
 
 pub loop-at-again : need.loop-at-again
 loop-at-again g c =

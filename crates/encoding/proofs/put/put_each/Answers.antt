@@ -15,9 +15,9 @@ loop-one-holds g c = laid-empty _ _ _ (omega arith) refl
 pub loop-one-again : need.loop-one-again
 loop-one-again g c =
     laid-as _ _ _ _ _ _ (sym (each-more (g .R·Message .fields) (c .args .field) (c .as-slice-items .result .now) (c .loop-one .one-index) (c .one-item .result) (c .loop-one-test .taken) (c .one-item .is)))
-      (then _ _ _ _ _ _ _ _ (omega (arith, c .good)) (c .loop-one .inv) (c .put-record-end .ensures))
+    (then _ _ _ _ _ _ _ _ (omega (arith, c .good)) (c .loop-one .inv) (c .put-record-end .ensures))
 
 pub returns : need.returns
 returns g c =
     laid-as _ _ _ _ _ _ (ap (λ (xs : List (g .R .Denot)). encode (each (g .R·Message .fields) (c .args .field) xs))
-      (take-all (c .loop-one .one-index) (c .as-slice-items .result .now) (c .loop-one-test .left) ∙ c .as-slice-items .ensures)) (c .loop-one .inv)
+    (take-all (c .loop-one .one-index) (c .as-slice-items .result .now) (c .loop-one-test .left) ∙ c .as-slice-items .ensures)) (c .loop-one .inv)

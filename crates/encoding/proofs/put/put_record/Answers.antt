@@ -15,10 +15,10 @@ pub returns-then-next-out : need.returns-then-next-out
 returns-then-next-out g c =
     let b = encode (g .R·Message .fields (c .args .inner .now)) in
     laid-as _ _ _ _ _ _ (whole (c .args .field) (c .encoded-len-len .result) b (c .encoded-len-len .ensures .size))
-      (then _ _ _ _ _ _ _ _ (omega (arith, c .good)) (c .put-head-next .ensures) (laid-beyond b _ _ _ (c .if-next-out .taken) (c .saturating-add .ensures ∙ ap (λ (n : ℕ). min (c .put-head-next .result + n) (2 ^ 64 - 1)) (c .encoded-len-len .ensures .size))))
+    (then _ _ _ _ _ _ _ _ (omega (arith, c .good)) (c .put-head-next .ensures) (laid-beyond b _ _ _ (c .if-next-out .taken) (c .saturating-add .ensures ∙ ap (λ (n : ℕ). min (c .put-head-next .result + n) (2 ^ 64 - 1)) (c .encoded-len-len .ensures .size))))
 
 pub returns : need.returns
 returns g c =
     let b = encode (g .R·Message .fields (c .args .inner .now)) in
     laid-as _ _ _ _ _ _ (whole (c .args .field) (c .encoded-len-len .result) b (c .encoded-len-len .ensures .size))
-      (then _ _ _ _ _ _ _ _ (omega (arith, c .good)) (c .put-head-next .ensures) (c .put .ensures))
+    (then _ _ _ _ _ _ _ _ (omega (arith, c .good)) (c .put-head-next .ensures) (c .put .ensures))

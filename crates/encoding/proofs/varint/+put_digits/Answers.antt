@@ -19,4 +19,4 @@ put-digits-requires t c κs = (omega arith, cap-on (c .args .left) (c .args .val
 pub returns : need.returns
 returns t c =
     laid-as _ _ _ _ _ _ (sym (base128-on (c .args .left) (c .args .value) (c .if-left-eq0 .left) (c .if-value-lt128 .left)))
-      (then ((c .args .value % 128 + 128) ∷ []) (base128 (c .args .left - 1) (c .args .value / 128)) (c .args .out .now) _ _ (c .args .at) _ _ (omega (arith, c .good)) (c .put-byte-next .ensures) (c .put-digits .ensures))
+    (then ((c .args .value % 128 + 128) ∷ []) (base128 (c .args .left - 1) (c .args .value / 128)) (c .args .out .now) _ _ (c .args .at) _ _ (omega (arith, c .good)) (c .put-byte-next .ensures) (c .put-digits .ensures))

@@ -10,9 +10,11 @@ loop-i-holds g c = (length-replicate _ _, refl, refl)
 
 pub loop-i-again : need.loop-i-again
 loop-i-again g c =
-    let n = c .loop-i .inv .0 in
-    (length-set _ _ _ ∙ n, copied-more (c .loop-i .items) (c .args .from .now) (c .loop-i .i) (c .index-from-i .result) (omega arith) (omega arith) (c .index-from-i .is) (c .loop-i .inv .1),
-     kept-more (c .loop-i .items) (replicate (g .N) (c .args .blank)) (c .loop-i .i) (c .index-from-i .result) (c .loop-i .inv .2))
+    let n = c .loop-i .inv .0 in (
+      length-set _ _ _ ∙ n,
+      copied-more (c .loop-i .items) (c .args .from .now) (c .loop-i .i) (c .index-from-i .result) (omega arith) (omega arith) (c .index-from-i .is) (c .loop-i .inv .1),
+      kept-more (c .loop-i .items) (replicate (g .N) (c .args .blank)) (c .loop-i .i) (c .index-from-i .result) (c .loop-i .inv .2),
+    )
 
 pub ghost-result : need.ghost-result
 ghost-result g c = (omega arith, (c .loop-i .inv .0, tt))

@@ -21,14 +21,17 @@ loop-i-holds g c =
 pub loop-i-again : need.loop-i-again
 loop-i-again g c =
     let b = c .args .self .now in
-    let n = c .loop-i .inv .0 in
-    (length-set _ _ _ ∙ n,
-     moved-more (c .loop-i .items) (b .items) (c .args .at) (c .loop-i .i) (c .index-items-i .result) (c .loop-i .kept .i) (omega (arith, b .fits, b .full)) (omega (arith, b .fits, b .full)) (c .loop-i .inv .1) (c .loop-i .inv .2),
-     kept-more (c .loop-i .items) (b .items) (c .loop-i .i) (getD (c .loop-i .items) (c .loop-i .i + 1) (c .index-items-i .result)) (c .loop-i .inv .2))
+    let n = c .loop-i .inv .0 in (
+      length-set _ _ _ ∙ n,
+      moved-more (c .loop-i .items) (b .items) (c .args .at) (c .loop-i .i) (c .index-items-i .result) (c .loop-i .kept .i) (omega (arith, b .fits, b .full)) (omega (arith, b .fits, b .full)) (c .loop-i .inv .1) (c .loop-i .inv .2),
+      kept-more (c .loop-i .items) (b .items) (c .loop-i .i) (getD (c .loop-i .items) (c .loop-i .i + 1) (c .index-items-i .result)) (c .loop-i .inv .2),
+    )
 
 pub returns : need.returns
 returns g c =
     let b = c .args .self .now in
     let l : c .args .at < length (list b) = omega (arith, list-length b) in
-    record { test = sym (lt-ltb _ _ l);
-             items = removed-all (c .loop-i .items) (b .items) (c .args .at) (b .len) (c .loop-i .i) (c .args .blank) (omega (arith, c .loop-i .kept .i-end (omega arith))) (omega arith) (omega (arith, b .fits, b .full)) (c .loop-i .inv .1) }
+    record {
+      test = sym (lt-ltb _ _ l);
+      items = removed-all (c .loop-i .items) (b .items) (c .args .at) (b .len) (c .loop-i .i) (c .args .blank) (omega (arith, c .loop-i .kept .i-end (omega arith))) (omega arith) (omega (arith, b .fits, b .full)) (c .loop-i .inv .1);
+    }

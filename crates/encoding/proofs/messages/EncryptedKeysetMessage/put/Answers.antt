@@ -15,4 +15,4 @@ unfolding encryptedKeysetFields fieldsOfEncryptedKeyset fieldsOfKeysetInfo
 returns c =
     let r = c .args .self .now in
     both (P2 r) (Q2 r) _ _ _ _ _ _ (omega (arith, c .good)) (text-is 2 _ _ _ _ _ _ (c .as-slice .ensures) (c .put-text-second .ensures))
-      (alone (P3 r) _ _ _ _ (laid-as _ _ _ _ _ _ (ap encode (present-view keysetInfoFields keysetInfoView 3 (r .«keyset_info»))) (c .put-present .ensures)))
+    (alone (P3 r) _ _ _ _ (laid-as _ _ _ _ _ _ (ap encode (present-view keysetInfoFields keysetInfoView 3 (r .«keyset_info»))) (c .put-present .ensures)))

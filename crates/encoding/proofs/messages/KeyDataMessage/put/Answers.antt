@@ -15,5 +15,5 @@ unfolding keyDataFields fieldsOfKeyData
 returns c =
     let r = c .args .self .now in
     both (P1 r) (Q1 r) _ _ _ _ _ _ (omega (arith, c .good)) (text-is 1 _ _ _ _ _ _ (c .as-bytes .ensures) (c .put-text-second .ensures))
-      (both (P2 r) (Q2 r) _ _ _ _ _ _ (omega (arith, c .good, c .put-text-second .kept .out)) (text-is 2 _ _ _ _ _ _ (c .as-slice .ensures) (c .put-text-third .ensures))
-        (alone (P3 r) _ _ _ _ (signed-is 3 (r .«key_material_type») _ _ _ _ (r .«material_width») (c .put-signed .ensures))))
+    (both (P2 r) (Q2 r) _ _ _ _ _ _ (omega (arith, c .good, c .put-text-second .kept .out)) (text-is 2 _ _ _ _ _ _ (c .as-slice .ensures) (c .put-text-third .ensures))
+    (alone (P3 r) _ _ _ _ (signed-is 3 (r .«key_material_type») _ _ _ _ (r .«material_width») (c .put-signed .ensures))))

@@ -15,6 +15,6 @@ unfolding keyFields fieldsOfKey fieldsOfKeyData
 returns c =
     let r = c .args .self .now in
     both (P1 r) (Q1 r) _ _ _ _ _ _ (omega (arith, c .good)) (laid-as _ _ _ _ _ _ (ap encode (present-view keyDataFields keyDataView 1 (r .«key_data»))) (c .put-present-second .ensures))
-      (both (P2 r) (Q2 r) _ _ _ _ _ _ (omega (arith, c .good, c .put-present-second .kept .out)) (signed-is 2 (r .status) _ _ _ _ (r .«status_width») (c .put-signed-third .ensures))
-        (both (P3 r) (Q3 r) _ _ _ _ _ _ (omega (arith, c .good, c .put-present-second .kept .out, c .put-signed-third .kept .out)) (c .put-unsigned-fourth .ensures)
-          (alone (P4 r) _ _ _ _ (signed-is 4 (r .«output_prefix_type») _ _ _ _ (r .«prefix_width») (c .put-signed .ensures)))))
+    (both (P2 r) (Q2 r) _ _ _ _ _ _ (omega (arith, c .good, c .put-present-second .kept .out)) (signed-is 2 (r .status) _ _ _ _ (r .«status_width») (c .put-signed-third .ensures))
+    (both (P3 r) (Q3 r) _ _ _ _ _ _ (omega (arith, c .good, c .put-present-second .kept .out, c .put-signed-third .kept .out)) (c .put-unsigned-fourth .ensures)
+    (alone (P4 r) _ _ _ _ (signed-is 4 (r .«output_prefix_type») _ _ _ _ (r .«prefix_width») (c .put-signed .ensures)))))

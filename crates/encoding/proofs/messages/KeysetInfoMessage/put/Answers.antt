@@ -15,4 +15,4 @@ unfolding keysetInfoFields fieldsOfKeysetInfo fieldsOfKeyInfo
 returns c =
     let r = c .args .self .now in
     both (P1 r) (Q1 r) _ _ _ _ _ _ (omega (arith, c .good)) (c .put-unsigned-second .ensures)
-      (alone (P2 r) _ _ _ _ (laid-as _ _ _ _ _ _ (ap encode (each-view keyInfoFields keyInfoView 2 (list (r .«key_info»)))) (c .put-each .ensures)))
+    (alone (P2 r) _ _ _ _ (laid-as _ _ _ _ _ _ (ap encode (each-view keyInfoFields keyInfoView 2 (list (r .«key_info»)))) (c .put-each .ensures)))

@@ -15,4 +15,4 @@ unfolding keysetFields fieldsOfKeyset fieldsOfKey
 returns c =
     let r = c .args .self .now in
     both (P1 r) (Q1 r) _ _ _ _ _ _ (omega (arith, c .good)) (c .put-unsigned-second .ensures)
-      (alone (P2 r) _ _ _ _ (laid-as _ _ _ _ _ _ (ap encode (each-view keyFields keyView 2 (list (r .key)))) (c .put-each .ensures)))
+    (alone (P2 r) _ _ _ _ (laid-as _ _ _ _ _ _ (ap encode (each-view keyFields keyView 2 (list (r .key)))) (c .put-each .ensures)))
