@@ -9,3 +9,7 @@ pub mod EditLaws
 pub mod Undoing
 pub mod ValidLaws
 pub mod CheckLaws
+pub mod Drawing
+pub mod Banks
+pub mod Ids
+pub mod Appending

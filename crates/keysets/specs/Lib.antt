@@ -7,3 +7,8 @@ pub mod Checks
 pub mod Seeing
 pub mod Claims
 pub mod Validity
+pub mod Managers
+pub mod Cmac128
+pub mod ChipPublic
+pub mod Registries
+pub mod Adding

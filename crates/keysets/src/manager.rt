@@ -7,6 +7,7 @@ use encoding::bounded::Bounded;
 use encoding::records::Key;
 use encoding::records::Keyset;
 
+mod adds;
 mod edits;
 mod reads;
 

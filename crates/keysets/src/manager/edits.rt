@@ -22,9 +22,9 @@ use encoding::records::KeyId;
 
 // A key and its position.
 #[derive(Copy)]
-struct Found {
-    at: usize,
-    key: Key,
+pub(super) struct Found {
+    pub(super) at: usize,
+    pub(super) key: Key,
 }
 
 impl Edit {
@@ -113,7 +113,7 @@ impl Manager {
     }
 
     // The first key with an id, and its position.
-    fn find(&self, id: KeyId) -> Result<Found, Fault>
+    pub(super) fn find(&self, id: KeyId) -> Result<Found, Fault>
         ensures { λ r. ⌜ Cases r
             (λ k. (positionOf id (keysetView (now (self .entry) .ks) .keys) ≡ Some (k .at)) × (keyView (k .key) ≡ keyAt (keysetView (now (self .entry) .ks) .keys) (k .at)))
             (λ f. (positionOf id (keysetView (now (self .entry) .ks) .keys) ≡ None) × (f ≡ keyNotFound)) ⌝ }
