@@ -3,6 +3,7 @@ ghost use mathlib.Core.Path.{_≡_};
 ghost use mathlib.Core.List.{List, [], _∷_, _++_};
 ghost use mathlib.Core.Bool.{Bool};
 ghost use Prim.Native.Nat.{ℕ, _^_, _<_, _≤_};
+ghost use lib.Dec.{leb};
 ghost use lib.ListN.{length};
 ghost use denote.Ref.{now};
 ghost use Rattle.std.specs.Options.{Cases as BySome};
@@ -71,6 +72,16 @@ pub fn encoded_len<R: Message>(record: &R) -> usize
     record.put(&mut none, 0)
 }
 
+// Whether a record fits in so many bytes. Where the largest one does, nothing is measured.
+fn fits<R: Message>(record: &R, room: usize) -> bool
+    ensures { λ r. ⌜ r ≡ leb (length (encode (R·Message .fields (now («record» .entry))))) room ⌝ }
+{
+    if room >= R::largest_len() {
+        return true;
+    }
+    encoded_len(record) <= room
+}
+
 // Writes a record at the front of an output, and answers its length; or refuses an output that is too short, and writes
 // nothing.
 pub fn write<R: Message>(record: &R, out: &mut [u8]) -> Result<usize, Fault>
@@ -78,7 +89,7 @@ pub fn write<R: Message>(record: &R, out: &mut [u8]) -> Result<usize, Fault>
         (λ n. Wrote (encode (R·Message .fields (now («record» .entry)))) (now (out .entry)) (now (out .exit)) n)
         (λ f. Unwritten (encode (R·Message .fields (now («record» .entry)))) (now (out .entry)) (now (out .exit)) f) ⌝ }
 {
-    if out.len() < encoded_len(record) {
+    if !fits(record, out.len()) {
         return Err(Fault::new(Refusal::WrongSize, Layer::Encoding));
     }
     Ok(record.put(out, 0))

@@ -32,6 +32,10 @@ fn put_digits(out: &mut [u8], at: usize, value: u64, left: u8) -> usize
 pub(crate) fn put_varint(out: &mut [u8], at: usize, value: u64) -> usize
     ensures { λ r. ⌜ Laid (varint value) (now (out .entry)) at (now (out .exit)) r ⌝ }
 {
+    // Most are one byte.
+    if value < 128 {
+        return put_byte(out, at, value as u8);
+    }
     put_digits(out, at, value, 9)
 }
 
