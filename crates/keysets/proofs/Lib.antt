@@ -13,3 +13,4 @@ pub mod Drawing
 pub mod Banks
 pub mod Ids
 pub mod Appending
+pub mod AddLaws

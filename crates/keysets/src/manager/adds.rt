@@ -4,6 +4,7 @@ ghost use mathlib.Core.Bool.{true};
 ghost use Prim.Native.Nat.{_<_};
 ghost use lib.ListN.{length};
 ghost use Rattle.encoding.specs.Views.{keyView, keyTemplateView, keysetView};
+ghost use Rattle.keysets.specs.Claims.{DistinctIds};
 ghost use Rattle.keysets.specs.Managers.{answered};
 ghost use Rattle.keysets.specs.Registries.{registered as registeredIn};
 ghost use Rattle.keysets.specs.Adding.{isPresent, drawnId, idAnswer, wordsAfterId, madeKey, wordsMade, withKey, added};
@@ -77,7 +78,8 @@ impl Manager {
         }
     }
 
-    // A new key by a template, and perhaps the primary one. A keyset of 16 keys refuses before anything else.
+    // A new key by a template, and perhaps the primary one. A keyset of 16 keys refuses before anything else. Ids that differ
+    // keep differing.
     pub fn add<M: KeyManager, D: Draws>(
         &mut self,
         registry: &Registry<M>,
@@ -88,6 +90,7 @@ impl Manager {
         ensures after { λ _. ⌜ keysetView (now (self .exit) .ks) ≡ added (registeredIn (M·Primitives .maker) (M·KeyMaking .keys) (now (now (registry .entry) .bank))) (keyTemplateView (now (kt .entry))) «as_primary» (keysetView (now (self .entry) .ks)) (D·Draws .left (now (words .entry))) .keyset ⌝ }
         ensures words { λ _. ⌜ D·Draws .left (now (words .exit)) ≡ added (registeredIn (M·Primitives .maker) (M·KeyMaking .keys) (now (now (registry .entry) .bank))) (keyTemplateView (now (kt .entry))) «as_primary» (keysetView (now (self .entry) .ks)) (D·Draws .left (now (words .entry))) .words ⌝ }
         ensures value { λ r. ⌜ r ≡ added (registeredIn (M·Primitives .maker) (M·KeyMaking .keys) (now (now (registry .entry) .bank))) (keyTemplateView (now (kt .entry))) «as_primary» (keysetView (now (self .entry) .ks)) (D·Draws .left (now (words .entry))) .answer ⌝ }
+        ensures distinct { λ _. ⌜ (DistinctIds (keysetView (now (self .entry) .ks) .keys) → DistinctIds (keysetView (now (self .exit) .ks) .keys)) ⌝ }
     {
         if self.ks.key.len() >= 16 {
             return Err(Fault::new(Refusal::KeysetFull, Layer::Manager));
@@ -107,6 +110,7 @@ impl Manager {
         ensures after { λ _. ⌜ keysetView (now (self .exit) .ks) ≡ added (registeredIn (M·Primitives .maker) (M·KeyMaking .keys) (now (now (registry .entry) .bank))) (keyTemplateView (now (kt .entry))) true (keysetView (now (self .entry) .ks)) (D·Draws .left (now (words .entry))) .keyset ⌝ }
         ensures words { λ _. ⌜ D·Draws .left (now (words .exit)) ≡ added (registeredIn (M·Primitives .maker) (M·KeyMaking .keys) (now (now (registry .entry) .bank))) (keyTemplateView (now (kt .entry))) true (keysetView (now (self .entry) .ks)) (D·Draws .left (now (words .entry))) .words ⌝ }
         ensures value { λ r. ⌜ r ≡ added (registeredIn (M·Primitives .maker) (M·KeyMaking .keys) (now (now (registry .entry) .bank))) (keyTemplateView (now (kt .entry))) true (keysetView (now (self .entry) .ks)) (D·Draws .left (now (words .entry))) .answer ⌝ }
+        ensures distinct { λ _. ⌜ (DistinctIds (keysetView (now (self .entry) .ks) .keys) → DistinctIds (keysetView (now (self .exit) .ks) .keys)) ⌝ }
     {
         self.add(registry, kt, true, words)
     }
