@@ -1,12 +1,25 @@
 // A list of at most `N` items, without allocation.
-ghost use Rattle.std.specs.Prelude.{◌≡◌, ◌≤◌, length};
+ghost use Rattle.std.specs.Prelude.{◌≡◌, ◌≤◌, ⊤, length};
 
 mod methods;
 
-#[derive(Clone, Copy)]
+use std::alloc::AllocError;
+
+#[derive(Copy)]
 pub struct Bounded<T: Copy, const N: usize> {
     items: [T; N],
     len: usize,
     ghost fits: { len ≤ N },
     ghost full: { length items ≡ N },
+}
+
+// A copy, which never fails.
+impl<T: Copy, const N: usize> Clone for Bounded<T, N> {
+    ghost is_clone = { λ a b. a ≡ b };
+
+    ghost is_infallible = { λ _. ⊤ };
+
+    fn clone(&self) -> Result<Bounded<T, N>, AllocError> {
+        Ok(*self)
+    }
 }

@@ -4,9 +4,10 @@ ghost use Rattle.ciphers.specs.Faults.{fault};
 ghost use Rattle.ciphers.specs.declared.fault.Refusal.TheVariants.{BreaksEncoding};
 ghost use Rattle.ciphers.specs.declared.fault.Layer.TheVariants.{Encoding};
 ghost use Rattle.encoding.specs.Lists.{list, unused, visible, visible_byte};
+ghost use Rattle.std.specs.Cmp.{partial_equiv_from_equiv};
 ghost use Rattle.std.specs.Cmp.Rules.{comparing};
-ghost use Rattle.std.proofs.Common.{rules, arith};
-ghost use Rattle.std.specs.Cmp as Keys;
+ghost use Rattle.std.proofs.Common.{rules};
+ghost use Rattle.std.specs.Str.{bytes_eq};
 
 use crate::bounded::Bounded;
 use ciphers::fault::{Fault, Layer, Refusal};
@@ -64,15 +65,18 @@ impl TypeUrl {
 
 // Yes exactly for equal type URLs.
 impl PartialEq for TypeUrl {
-    ghost equals = { λ a b r. Decides r (a ≡ b) };
+    ghost eq = { λ a b. bytes_eq (list a.text) (list b.text) };
 
-    ghost laws = { Keys.partial_equiv_from_equiv (first_of (Prim.search (comparing, rules), Prim.grind (arith, Self.row.coded.inj))) };
+    ghost laws = { partial_equiv_from_equiv (Prim.search (comparing, rules)) };
 
-    fn eq(&self, other: &TypeUrl) -> bool {
+    fn eq(&self, other: &TypeUrl) -> bool
+        ensures bytes { result ≡ bytes_eq (list self.now.text) (list other.now.text) }
+        ensures same { Decides result (self.now ≡ other.now) }
+    {
         self.as_bytes() == other.as_bytes()
     }
 }
 
 impl Eq for TypeUrl {
-    ghost laws = { first_of (Prim.search (comparing, rules), Prim.grind (arith, Self.row.coded.inj)) };
+    ghost laws = { Prim.search (comparing, rules) };
 }

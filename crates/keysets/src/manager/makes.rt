@@ -15,6 +15,8 @@ use encoding::records::Key;
 
 // The check of handles and saves, then the registry, then the prefix type.
 fn make_primitive<M: KeyManager>(registry: &Registry<M>, key: &Key) -> Result<M::Primitive, Fault>
+where
+    M::Primitive: Drop,
     ensures { result ≡ key_primitive (registered_in M.Primitives.maker M.KeyMaking.keys registry.now.bank.now) (key_view key.now) }
 {
     check_key(key)?;
@@ -35,6 +37,8 @@ impl Manager {
         registry: &Registry<M>,
         at: usize,
     ) -> Result<M::Primitive, Fault>
+    where
+        M::Primitive: Drop,
         ensures { result ≡ primitive_at (registered_in M.Primitives.maker M.KeyMaking.keys registry.now.bank.now) at (keyset_view self.now.ks) }
     {
         let Some(key) = self.key_at(at) else {

@@ -18,11 +18,11 @@ loop-j-preserved c =
     let j = c.loop-j.j in
     let at = 16 * j in
     let inside : at + 16 ≤ length text = omega arith in
-    let full : length c.stream-block.result ≡ 16 = search rules in
+    let full : length c.stream_block.result ≡ 16 = search rules in
     let block : length (take 16 (drop at text)) ≡ 16 = length-take-le 16 (drop at text) (omega (arith, length-drop at text)) in
     let next : at + 16 ≡ 16 * (j + 1) = omega arith in
-    c.mask-block.ensures ∙
-    (mask_step E c.args.q text o c.loop-j.out c.stream-block.result (take 16 (drop at text)) j at (at + 16) refl (omega arith) c.loop-j.invariant c.stream-block.ensures full (omega arith) (omega arith) (take_parts at 16 text) ∙
+    c.mask_block.ensures ∙
+    (mask_step E c.args.q text o c.loop-j.out c.stream_block.result (take 16 (drop at text)) j at (at + 16) refl (omega arith) c.loop-j.invariant c.stream_block.ensures full (omega arith) (omega arith) (take_parts at 16 text) ∙
     ap (λ (n : ℕ). masked E c.args.q (take n text) ++ drop n o) next)
 
 pub returns : goal.returns
@@ -34,11 +34,11 @@ returns c =
     let at = 16 * whole in
     let n = length text in
     let end : c.loop-j.j ≡ whole = omega arith in
-    let full : length c.stream-block-2.result ≡ 16 = search rules in
+    let full : length c.stream_block-2.result ≡ 16 = search rules in
     let rest : length (drop at text) ≡ n - at = length-drop at text in
     let all : take n text ≡ text = take_all n text (omega arith) in
     let before : c.loop-j.out ≡ masked E c.args.q (take at text) ++ drop at o =
     c.loop-j.invariant ∙ ap (λ (k : ℕ). masked E c.args.q (take (16 * k) text) ++ drop (16 * k) o) end in
-    c.mask-rest.ensures ∙
-    (mask_step E c.args.q text o c.loop-j.out c.stream-block-2.result (drop at text) whole at n refl (omega arith) before c.stream-block-2.ensures full (omega arith) (omega arith) (all ∙ sym (take-append-drop at text)) ∙
+    c.mask_rest.ensures ∙
+    (mask_step E c.args.q text o c.loop-j.out c.stream_block-2.result (drop at text) whole at n refl (omega arith) before c.stream_block-2.ensures full (omega arith) (omega arith) (all ∙ sym (take-append-drop at text)) ∙
     ap (λ (t : List ℕ). masked E c.args.q t ++ drop n o) all)

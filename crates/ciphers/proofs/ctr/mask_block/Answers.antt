@@ -11,8 +11,8 @@ returns c =
     let at = c.args.at in
     let sixteen : at + 16 - at ≡ 16 = omega arith in
     let rest = take_rest text at in
-    let mixed : c.copy-from-slice.new.self ≡ xors (take 16 (drop at text)) c.args.stream =
-    c.copy-from-slice.ensures.after ∙ (c.xor-mixed.ensures ∙ ap (λ (l : List ℕ). xors l c.args.stream) (c.front.ensures ∙ ap (take 16) rest)) in
+    let mixed : c.copy_from_slice.new.self ≡ xors (take 16 (drop at text)) c.args.stream =
+    c.copy_from_slice.ensures.after ∙ (c.xor-mixed.ensures ∙ ap (λ (l : List ℕ). xors l c.args.stream) (c.front.ensures ∙ ap (take 16) rest)) in
     written at (at + 16 - at) out _ ∙
-    (ap (λ (n : ℕ). take at out ++ (c.copy-from-slice.new.self ++ drop (at + n) out)) sixteen ∙
+    (ap (λ (n : ℕ). take at out ++ (c.copy_from_slice.new.self ++ drop (at + n) out)) sixteen ∙
     ap (λ (l : List ℕ). take at out ++ (l ++ drop (at + 16) out)) mixed)

@@ -5,11 +5,11 @@ use Rattle.ciphers.proofs.Expanding.{after_none, after_more, cipher_by_is}
 use Rattle.ciphers.proofs.aes.Aes128.rounds.Goals as goal
 
 pub loop-i-init : goal.loop-i-init
-loop-i-init c = sym (after_none (map word_bytes c.args.self.now.words) (state_of c.add-round-key-s.result))
+loop-i-init c = sym (after_none (map word_bytes c.args.self.now.words) (state_of c.add_round_key-s.result))
 
 pub loop-i-preserved : goal.loop-i-preserved
 loop-i-preserved c =
-    let more = after_more (map word_bytes c.args.self.now.words) (state_of c.add-round-key-s.result) c.loop-i.i in
+    let more = after_more (map word_bytes c.args.self.now.words) (state_of c.add_round_key-s.result) c.loop-i.i in
     cc
 
 pub returns : goal.returns

@@ -6,5 +6,5 @@ pub returns : goal.returns
 unfolding column_of
 returns c =
     round_columns c.args.s c.args.k (c.column.result ∷ c.column-2.result ∷ c.column-3.result ∷ c.column-4.result ∷ []) _ _ _ _
-    c.to-be-bytes-a.ensures c.to-be-bytes-b.ensures c.to-be-bytes-c.ensures c.to-be-bytes-d.ensures
+    c.to_be_bytes-a.ensures c.to_be_bytes-b.ensures c.to_be_bytes-c.ensures c.to_be_bytes-d.ensures
     c.column.ensures c.column-2.ensures c.column-3.ensures c.column-4.ensures

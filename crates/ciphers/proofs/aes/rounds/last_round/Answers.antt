@@ -5,5 +5,5 @@ pub returns : goal.returns
 unfolding picked_of
 returns c =
     last_columns c.args.s c.args.k _ _ _ _ _ _ _ _
-    c.to-be-bytes-a.ensures c.to-be-bytes-b.ensures c.to-be-bytes-c.ensures c.to-be-bytes-d.ensures
-    c.sub-bytes.ensures c.sub-bytes-2.ensures c.sub-bytes-3.ensures c.sub-bytes-4.ensures
+    c.to_be_bytes-a.ensures c.to_be_bytes-b.ensures c.to_be_bytes-c.ensures c.to_be_bytes-d.ensures
+    c.sub_bytes.ensures c.sub_bytes-2.ensures c.sub_bytes-3.ensures c.sub_bytes-4.ensures

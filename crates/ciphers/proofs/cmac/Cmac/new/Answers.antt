@@ -2,6 +2,6 @@ use Rattle.std.proofs.Common.{◌≡◌, ap, ◌∙◌, rules}
 use Rattle.ciphers.specs.Rfc4493.{subkey1, dbl}
 use Rattle.ciphers.proofs.cmac.Cmac.new.Goals as goal
 
-pub invariant-of-result : goal.invariant-of-result
+pub invariant_of-result : goal.invariant_of-result
 unfolding subkey1
-invariant-of-result c = (search rules, (c.double-k1.ensures ∙ ap dbl c.encrypt.ensures, tt))
+invariant_of-result c = (search rules, (c.double-k1.ensures ∙ ap dbl c.encrypt.ensures, tt))

@@ -8,7 +8,7 @@ pub loop-at-preserved : goal.loop-at-preserved
 loop-at-preserved c =
     let piece = c.args.piece.now in
     let at = c.loop-at.at in
-    let n = c.absorb-front-n.result in
+    let n = c.absorb_front-n.result in
     let rest = take_rest piece at in
     let far = drop-drop n at piece in
     let inside : at + n ≤ length piece = omega (arith, ap length rest, length-drop at piece) in

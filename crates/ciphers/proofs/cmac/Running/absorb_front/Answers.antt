@@ -7,23 +7,23 @@ use Rattle.ciphers.proofs.cmac.Running.absorb_front.Goals as goal
 pub returns-then-more-ge16 : goal.returns-then-more-ge16
 unfolding progress
 returns-then-more-ge16 c =
-    let self = c.make-room.new.self in
+    let self = c.make_room.new.self in
     let more = c.args.more.now in
     let held = length-take-le self.n self.block (omega arith) in
-    let block = c.hold-block.ensures ∙ ap (held_with (progress self)) c.front.ensures in
+    let block = c.hold_block.ensures ∙ ap (held_with (progress self)) c.front.ensures in
     record {
       some = (omega arith, c.if-more-ge16.true);
-      after = front_block (progress self) _ more c.if-more-ge16.true (held ∙ c.if-self-eq0.true) block ∙ c.make-room.ensures.after more c.requires;
+      after = front_block (progress self) _ more c.if-more-ge16.true (held ∙ c.if-self-eq0.true) block ∙ c.make_room.ensures.after more c.requires;
     }
 
 pub returns : goal.returns
 unfolding progress
 returns c =
-    let self = c.make-room.new.self in
+    let self = c.make_room.new.self in
     let more = c.args.more.now in
     let held = length-take-le self.n self.block (omega arith) in
-    let room = c.make-room.ensures.room in
+    let room = c.make_room.ensures.room in
     record {
       some = (omega arith, c.requires);
-      after = front_byte (progress self) _ more c.requires (omega arith) c.hold.ensures ∙ c.make-room.ensures.after more c.requires;
+      after = front_byte (progress self) _ more c.requires (omega arith) c.hold.ensures ∙ c.make_room.ensures.after more c.requires;
     }

@@ -8,28 +8,28 @@ use Rattle.ciphers.proofs.Refusing.{opening_refused, opening_passed}
 use Rattle.ciphers.proofs.Seals.{opened-answer, opened-output}
 use Rattle.ciphers.proofs.cover.PlainCoverAead.decrypt.Goals as goal
 
-pub returns-in-err-check-opening : goal.returns-in-err-check-opening
-returns-in-err-check-opening c =
+pub returns-in_err-check_opening : goal.returns-in_err-check_opening
+returns-in_err-check_opening c =
     let sealed = c.args.ciphertext.now in
-    let text = c.args.additional-data.now in
-    let p = err_from_is_err_and c.from-residual.result c.from-residual.ensures.1 in
+    let text = c.args.additional_data.now in
+    let p = err_from_is_err_and c.from_residual.result c.from_residual.ensures.1 in
     let opens = ap (λ (b : Bool). cond b (Some (drop 4 sealed)) None) (sym c.agrees.ensures) in
-    let both = opening_refused (uncovered sealed text) c.agrees.result (drop 4 sealed) c.args.out.now _ _ opens (c.saturating-sub-n.ensures ∙ sym (length-drop 4 sealed)) c.in-err-check-opening.ensures in
+    let both = opening_refused (uncovered sealed text) c.agrees.result (drop 4 sealed) c.args.out.now _ _ opens (c.saturating_sub-n.ensures ∙ sym (length-drop 4 sealed)) c.in_err-check_opening.ensures in
     record { answer = p.1 ∙ (ap (λ (f : Fault). Err f) p.2 ∙ both.0); output = both.1 }
 
 pub returns : goal.returns
 returns c =
     let sealed = c.args.ciphertext.now in
-    let text = c.args.additional-data.now in
+    let text = c.args.additional_data.now in
     let out = c.args.out.now in
-    let n = c.saturating-sub-n.result in
-    let passed = opening_passed c.agrees.result (length out) n c.in-ok-check-opening.ensures in
+    let n = c.saturating_sub-n.result in
+    let passed = opening_passed c.agrees.result (length out) n c.in_ok-check_opening.ensures in
     let opens = cond-true _ (Some (drop 4 sealed)) None (sym c.agrees.ensures ∙ passed.0) in
-    let len = c.saturating-sub-n.ensures ∙ sym (length-drop 4 sealed) in
+    let len = c.saturating_sub-n.ensures ∙ sym (length-drop 4 sealed) in
     let size : n - 0 ≡ n = omega arith in
-    let copied = c.copy-from-slice.ensures.after ∙ take_rest sealed 4 in
+    let copied = c.copy_from_slice.ensures.after ∙ take_rest sealed 4 in
     record {
       answer = opened-answer (uncovered sealed text) (drop 4 sealed) opens n len (length out) passed.1;
       output = opened-output (uncovered sealed text) (drop 4 sealed) opens n len out _ passed.1
-          (ap (λ (k : ℕ). c.copy-from-slice.new.self ++ drop k out) size ∙ ap (λ (l : List ℕ). l ++ drop n out) copied);
+          (ap (λ (k : ℕ). c.copy_from_slice.new.self ++ drop k out) size ∙ ap (λ (l : List ℕ). l ++ drop n out) copied);
     }

@@ -8,7 +8,7 @@ use Rattle.ciphers.proofs.cover.PlainCoverAead.encrypt.Goals as goal
 pub returns : goal.returns
 returns c =
     let plain = c.args.plaintext.now in
-    let text = c.args.additional-data.now in
+    let text = c.args.additional_data.now in
     let out = c.args.out.now in
     let fits : out_of_bounds 4 (length plain) (length text) (length out) ≡ false = search rules in
     let short : length text ≤ 256 = search rules in

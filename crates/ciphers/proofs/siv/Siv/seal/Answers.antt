@@ -14,8 +14,8 @@ returns c =
     let E = cipher (aes_key s.ctr) in
     let plain = c.args.plain.now in
     let out = c.args.out.now in
-    let v = c.plain-tag-v.result in
+    let v = c.plain_tag-v.result in
     let whole : length v ≡ 16 = search rules in
-    let tag = c.plain-tag-v.ensures ∙ ap (λ (d : List ℕ). lastly A d plain) c.gather-d.ensures in
-    seal_written E c.clear.result v c.copy-from-slice.new.self out plain c.mask.new.out c.copy-from-slice.ensures.after whole (omega arith) c.mask.ensures ∙
+    let tag = c.plain_tag-v.ensures ∙ ap (λ (d : List ℕ). lastly A d plain) c.gather-d.ensures in
+    seal_written E c.clear.result v c.copy_from_slice.new.self out plain c.mask.new.out c.copy_from_slice.ensures.after whole (omega arith) c.mask.ensures ∙
     ap (λ (z : List ℕ). z ++ drop (16 + length plain) out) (sealed_is A E c.args.ad.now plain v c.clear.result tag c.clear.ensures)

@@ -13,15 +13,15 @@ pub returns-then-n-lt16 : goal.returns-then-n-lt16
 returns-then-n-lt16 c =
     let A = cipher (mac_key c.args.mac.now) in
     let plain = c.args.plain.now in
-    let copied = c.copy-from-slice.ensures.after in
-    let front = take_at c.copy-from-slice.new.self _ (length plain) (ap length copied) ∙ copied in
-    c.short-tag.ensures ∙
+    let copied = c.copy_from_slice.ensures.after in
+    let front = take_at c.copy_from_slice.new.self _ (length plain) (ap length copied) ∙ copied in
+    c.short_tag.ensures ∙
     (ap (λ (m : List ℕ). cmac A (xors (dbl c.args.d) (padded m))) front ∙ sym (lastly-short A c.args.d plain c.if-n-lt16.true))
 
 pub returns-else-n-lt16 : goal.returns-else-n-lt16
 returns-else-n-lt16 c =
     let key = mac_key c.args.mac.now in
     let plain = c.args.plain.now in
-    c.end-tag.ensures ∙
+    c.end_tag.ensures ∙
     (ap (λ (p : Progress). tag_of (absorbed p (xor_end plain c.args.d))) c.start-running.ensures ∙
     (tag_is key (xor_end plain c.args.d) ∙ sym (lastly_long (cipher key) c.args.d plain c.if-n-lt16.false)))

@@ -23,15 +23,15 @@ loop-j-preserved c =
     let at = 16 * j in
     let block = take 16 (drop at text) in
     let long : at + 16 ≤ length text = omega arith in
-    let full : length c.stream-block.result ≡ 16 = search rules in
+    let full : length c.stream_block.result ≡ 16 = search rules in
     let sixteen : length block ≡ 16 = length-take-le 16 (drop at text) (omega (arith, length-drop at text)) in
     let next : at + 16 ≡ 16 * (j + 1) = omega arith in
-    let plain = c.xor-plain.ensures ∙ ap (λ (l : List ℕ). xors l c.stream-block.result) (c.front.ensures ∙ ap (take 16) (take_rest text at)) in
-    let more = masked-next E c.args.q text c.stream-block.result block j at (at + 16) refl (omega arith) c.stream-block.ensures full (omega arith) (take_parts at 16 text) in
+    let plain = c.xor-plain.ensures ∙ ap (λ (l : List ℕ). xors l c.stream_block.result) (c.front.ensures ∙ ap (take 16) (take_rest text at)) in
+    let more = masked-next E c.args.q text c.stream_block.result block j at (at + 16) refl (omega arith) c.stream_block.ensures full (omega arith) (take_parts at 16 text) in
     c.absorb.ensures ∙
     (ap (λ (s : Progress). absorbed s c.xor-plain.result) c.loop-j.invariant ∙
     (ap (absorbed (absorbed p (masked E c.args.q (take at text)))) plain ∙
-    (sym (absorbed-append p (masked E c.args.q (take at text)) (xors block c.stream-block.result)) ∙
+    (sym (absorbed-append p (masked E c.args.q (take at text)) (xors block c.stream_block.result)) ∙
     (ap (absorbed p) (sym more) ∙ ap (λ (n : ℕ). absorbed p (masked E c.args.q (take n text))) next))))
 
 pub returns : goal.returns
@@ -45,6 +45,6 @@ returns c =
     let n = length (take (length text - 16 * whole) (drop (16 * whole) text)) in
     let later = (c.args.q + whole) % 2 ^ 128 in
     let tail = masked-front E later (n - 0) _ c.mask.new.out _ c.mask.ensures (omega arith) ∙ ap (masked E later) rest in
-    c.end-tag.ensures ∙
+    c.end_tag.ensures ∙
     tail_tag key E c.args.q whole text _ c.args.d (progress c.loop-j.running) (omega arith)
     (c.loop-j.invariant ∙ ap (λ (k : ℕ). absorbed (begun key) (masked E c.args.q (take (16 * k) text))) end) tail

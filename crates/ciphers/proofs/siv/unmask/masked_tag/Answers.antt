@@ -17,7 +17,7 @@ returns-then-n-lt16 c =
     let m = masked E c.args.q text in
     let len = length-masked E c.args.q 0 text in
     let front = masked-front E c.args.q (length text) text c.mask.new.out _ c.mask.ensures refl in
-    c.short-tag.ensures ∙
+    c.short_tag.ensures ∙
     (ap (λ (t : List ℕ). cmac A (xors (dbl c.args.d) (padded t))) front ∙ sym (lastly-short A c.args.d m (omega arith)))
 
 pub returns-else-n-lt16 : goal.returns-else-n-lt16
@@ -26,4 +26,4 @@ returns-else-n-lt16 c =
     let E = cipher (aes_key c.args.ctr.now) in
     let text = c.args.text.now in
     let len = length-masked E c.args.q 0 text in
-    c.long-tag.ensures ∙ sym (lastly_long A c.args.d (masked E c.args.q text) (omega arith))
+    c.long_tag.ensures ∙ sym (lastly_long A c.args.d (masked E c.args.q text) (omega arith))

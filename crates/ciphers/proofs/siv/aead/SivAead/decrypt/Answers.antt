@@ -11,15 +11,15 @@ use Rattle.ciphers.proofs.Reopening.{siv_opened_lem, opened_by, opened-genuine, 
 use Rattle.ciphers.proofs.Seals.{opened-answer, opened-output}
 use Rattle.ciphers.proofs.siv.aead.SivAead.decrypt.Goals as goal
 
-pub returns-in-err-check-opening : goal.returns-in-err-check-opening
-returns-in-err-check-opening c =
+pub returns-in_err-check_opening : goal.returns-in_err-check_opening
+returns-in_err-check_opening c =
     let s = c.args.self.now in
     let E = cipher (aes_key s.ctr) in
     let z = c.args.ciphertext.now in
-    let ad = c.args.additional-data.now in
-    let p = err_from_is_err_and c.from-residual.result c.from-residual.ensures.1 in
-    let opens = siv_opened_lem s ad z ∙ opened_by _ E ad z c.is-genuine.result c.is-genuine.ensures.value in
-    let both = opening_refused (siv_opened (siv_key s) ad z) c.is-genuine.result (plain_of E z) c.args.out.now _ _ opens (c.saturating-sub-n.ensures ∙ sym (plain_of_length E z)) c.in-err-check-opening.ensures in
+    let ad = c.args.additional_data.now in
+    let p = err_from_is_err_and c.from_residual.result c.from_residual.ensures.1 in
+    let opens = siv_opened_lem s ad z ∙ opened_by _ E ad z c.is_genuine.result c.is_genuine.ensures.value in
+    let both = opening_refused (siv_opened (siv_key s) ad z) c.is_genuine.result (plain_of E z) c.args.out.now _ _ opens (c.saturating_sub-n.ensures ∙ sym (plain_of_length E z)) c.in_err-check_opening.ensures in
     record { answer = p.1 ∙ (ap (λ (f : Fault). Err f) p.2 ∙ both.0); output = both.1 }
 
 pub returns : goal.returns
@@ -27,14 +27,14 @@ returns c =
     let s = c.args.self.now in
     let E = cipher (aes_key s.ctr) in
     let z = c.args.ciphertext.now in
-    let ad = c.args.additional-data.now in
+    let ad = c.args.additional_data.now in
     let out = c.args.out.now in
-    let n = c.saturating-sub-n.result in
-    let passed = opening_passed c.is-genuine.result (length out) n c.in-ok-check-opening.ensures in
-    let opens = siv_opened_lem s ad z ∙ opened-genuine _ E ad z (sym c.is-genuine.ensures.value ∙ passed.0) in
-    let len = c.saturating-sub-n.ensures ∙ sym (plain_of_length E z) in
+    let n = c.saturating_sub-n.result in
+    let passed = opening_passed c.is_genuine.result (length out) n c.in_ok-check_opening.ensures in
+    let opens = siv_opened_lem s ad z ∙ opened-genuine _ E ad z (sym c.is_genuine.ensures.value ∙ passed.0) in
+    let len = c.saturating_sub-n.ensures ∙ sym (plain_of_length E z) in
     record {
       answer = opened-answer (siv_opened (siv_key s) ad z) (plain_of E z) opens n len (length out) passed.1;
       output = opened-output (siv_opened (siv_key s) ad z) (plain_of E z) opens n len out _ passed.1
-          (c.unmask.ensures ∙ ap (λ (k : ℕ). plain_of E z ++ drop k out) (sym c.saturating-sub-n.ensures));
+          (c.unmask.ensures ∙ ap (λ (k : ℕ). plain_of E z ++ drop k out) (sym c.saturating_sub-n.ensures));
     }

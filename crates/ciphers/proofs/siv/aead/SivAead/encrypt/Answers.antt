@@ -12,19 +12,19 @@ use Rattle.ciphers.proofs.Reopening.{cipher-length, sealed-length, siv_sealed_le
 use Rattle.ciphers.proofs.Seals.{sealed-encrypted, sealed-answer, sealed-output}
 use Rattle.ciphers.proofs.siv.aead.SivAead.encrypt.Goals as goal
 
-pub returns-in-err-check-sizes : goal.returns-in-err-check-sizes
-returns-in-err-check-sizes c =
+pub returns-in_err-check_sizes : goal.returns-in_err-check_sizes
+returns-in_err-check_sizes c =
     let key = siv_key c.args.self.now in
-    let p = err_from_is_err_and c.from-residual.result c.from-residual.ensures.1 in
-    let all = encrypt_refused (λ z ad. siv_opened key ad z) 16 c.args.plaintext.now c.args.additional-data.now c.args.out.now (siv_sealed key c.args.additional-data.now c.args.plaintext.now)
-    c.from-residual.result _ (p.1 ∙ ap (λ (f : Fault). Err f) p.2) c.in-err-check-sizes.ensures in
+    let p = err_from_is_err_and c.from_residual.result c.from_residual.ensures.1 in
+    let all = encrypt_refused (λ z ad. siv_opened key ad z) 16 c.args.plaintext.now c.args.additional_data.now c.args.out.now (siv_sealed key c.args.additional_data.now c.args.plaintext.now)
+    c.from_residual.result _ (p.1 ∙ ap (λ (f : Fault). Err f) p.2) c.in_err-check_sizes.ensures in
     record { sealed = all.0; answer = all.1; output = all.2 }
 
 pub returns : goal.returns
 returns c =
     let s = c.args.self.now in
     let plain = c.args.plaintext.now in
-    let text = c.args.additional-data.now in
+    let text = c.args.additional_data.now in
     let out = c.args.out.now in
     let n = 16 + length plain in
     let fits : out_of_bounds 16 (length plain) (length text) (length out) ≡ false = search rules in
