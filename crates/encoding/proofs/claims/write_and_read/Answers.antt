@@ -4,12 +4,12 @@ use Rattle.encoding.specs.Messages.{Wrote, Unwritten}
 use Rattle.encoding.proofs.Backs.{wrote_fits, wrote-front, back, if_read}
 use Rattle.encoding.proofs.claims.write_and_read.Goals as goal
 
-pub slice-bounds-read-end : goal.slice-bounds-read-end
-slice-bounds-read-end g c = let h = wrote_fits _ _ _ _ c.in-ok-n.ensures c.write.auto.out in search rules
+pub slice_bounds-read-end : goal.slice_bounds-read-end
+slice_bounds-read-end g c = let h = wrote_fits _ _ _ _ c.in_ok-n.ensures c.write.auto.out in search rules
 
 pub returns : goal.returns
 returns g c =
-    let w = c.in-ok-n.ensures in
+    let w = c.in_ok-n.ensures in
     record {
       back = back g.R.Message.fields g.R.Message.knows (λ r. (g.met.R.Message.sound r).ordered) g.R.Message.same g.met.R.Message.told _ c.args.record.now _ c.read.result (wrote-front _ _ _ _ w) c.read.ensures;
       written = if_read _ c.read.result (subst (λ (n : ℕ). Wrote (encode (g.R.Message.fields c.args.record.now)) c.args.out.now c.write.new.out n) w.size w);

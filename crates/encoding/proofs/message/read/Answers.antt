@@ -10,11 +10,11 @@ pub loop-at-init : goal.loop-at-init
 unfolding encode last_of
 loop-at-init g c = (omega arith, ap encode c.empty-made.ensures, sym (ap (last_of 0) c.empty-made.ensures))
 
-pub returns-in-default : goal.returns-in-default
-returns-in-default g c =
+pub returns-in_default : goal.returns-in_default
+returns-in_default g c =
     unread g.R.Message.fields c.args.input.now c.loop-at.at c.broken.result c.broken.ensures
     (place g.R.Message.fields (λ r. all_small _ _ _ _ (g.met.R.Message.sound r).ordered) c.args.input.now c.loop-at.at c.loop-at.made (omega arith) c.loop-at.invariant.1
-    (subst (λ (x : List ℕ). Stuck g.R.Message.fields c.loop-at.made x) (take_rest c.args.input.now c.loop-at.at) c.in-default.ensures))
+    (subst (λ (x : List ℕ). Stuck g.R.Message.fields c.loop-at.made x) (take_rest c.args.input.now c.loop-at.at) c.in_default.ensures))
 
 pub loop-at-preserved : goal.loop-at-preserved
 loop-at-preserved g c =

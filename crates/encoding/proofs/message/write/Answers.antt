@@ -4,4 +4,4 @@ use Rattle.encoding.specs.Layings.{wrote}
 use Rattle.encoding.proofs.message.write.Goals as goal
 
 pub returns : goal.returns
-returns g c = wrote _ _ _ _ (leb-true _ _ (sym c.if-not-fits.ensures)) (omega (arith, c.well-formed)) c.put.ensures
+returns g c = wrote _ _ _ _ (leb-true _ _ (sym c.if-not-fits.ensures)) (omega (arith, c.well_formed)) c.put.ensures

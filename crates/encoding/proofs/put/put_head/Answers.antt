@@ -3,4 +3,4 @@ use Rattle.encoding.specs.Layings.{then}
 use Rattle.encoding.proofs.put.put_head.Goals as goal
 
 pub returns : goal.returns
-returns c = then _ _ _ _ _ _ _ _ (omega (arith, c.well-formed)) c.put-varint-next.ensures c.put-varint.ensures
+returns c = then _ _ _ _ _ _ _ _ (omega (arith, c.well_formed)) c.put_varint-next.ensures c.put_varint.ensures

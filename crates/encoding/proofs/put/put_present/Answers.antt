@@ -11,4 +11,4 @@ returns-in-None g c = laid_empty _ _ _ (omega arith) (ap (λ (o : Option g.row.R
 
 pub returns-in-Some : goal.returns-in-Some
 returns-in-Some g c =
-    laid_as _ _ _ _ _ _ (sym (encode_one _) ∙ sym (ap (λ (o : Option g.row.R.Denot). encode (present g.R.Message.fields c.args.field o)) c.in-Some.is)) c.put-record.ensures
+    laid_as _ _ _ _ _ _ (sym (encode_one _) ∙ sym (ap (λ (o : Option g.row.R.Denot). encode (present g.R.Message.fields c.args.field o)) c.in-Some.is)) c.put_record.ensures

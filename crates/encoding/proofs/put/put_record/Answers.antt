@@ -11,4 +11,4 @@ pub returns : goal.returns
 returns g c =
     let b = encode (g.R.Message.fields c.args.inner.now) in
     laid_as _ _ _ _ _ _ (whole c.args.field c.size-len.result b c.size-len.ensures)
-    (then _ _ _ _ _ _ _ _ (omega (arith, c.well-formed)) c.put-head-next.ensures c.put.ensures)
+    (then _ _ _ _ _ _ _ _ (omega (arith, c.well_formed)) c.put_head-next.ensures c.put.ensures)

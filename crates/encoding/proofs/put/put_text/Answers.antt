@@ -4,8 +4,8 @@ use Rattle.encoding.specs.Layings.{then, laid_as, laid_empty}
 use Rattle.encoding.specs.Parts.{text-bytes, text-none}
 use Rattle.encoding.proofs.put.put_text.Goals as goal
 
-pub returns-then-is-empty : goal.returns-then-is-empty
-returns-then-is-empty c = laid_empty _ _ _ (omega arith) (text-none c.args.field c.args.from.now (eqb-true _ 0 (sym c.if-is-empty.ensures)))
+pub returns-then-is_empty : goal.returns-then-is_empty
+returns-then-is_empty c = laid_empty _ _ _ (omega arith) (text-none c.args.field c.args.from.now (eqb-true _ 0 (sym c.if-is_empty.ensures)))
 
 pub returns : goal.returns
-returns c = laid_as _ _ _ _ _ _ (sym (text-bytes c.args.field c.args.from.now (eqb-false _ 0 (sym c.if-is-empty.ensures)))) (then _ _ _ _ _ _ _ _ (omega (arith, c.well-formed)) c.put-head-next.ensures c.put-raw.ensures)
+returns c = laid_as _ _ _ _ _ _ (sym (text-bytes c.args.field c.args.from.now (eqb-false _ 0 (sym c.if-is_empty.ensures)))) (then _ _ _ _ _ _ _ _ (omega (arith, c.well_formed)) c.put_head-next.ensures c.put_raw.ensures)

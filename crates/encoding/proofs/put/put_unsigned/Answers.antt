@@ -7,4 +7,4 @@ pub returns-then-value-eq0 : goal.returns-then-value-eq0
 returns-then-value-eq0 c = laid_empty _ _ _ (omega arith) (number-none c.args.field c.args.value c.if-value-eq0.true)
 
 pub returns : goal.returns
-returns c = laid_as _ _ _ _ _ _ (sym (number-bytes c.args.field c.args.value c.if-value-eq0.false)) (then _ _ _ _ _ _ _ _ (omega (arith, c.well-formed)) c.put-varint-next.ensures c.put-varint.ensures)
+returns c = laid_as _ _ _ _ _ _ (sym (number-bytes c.args.field c.args.value c.if-value-eq0.false)) (then _ _ _ _ _ _ _ _ (omega (arith, c.well_formed)) c.put_varint-next.ensures c.put_varint.ensures)

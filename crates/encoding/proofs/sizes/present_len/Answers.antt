@@ -13,6 +13,6 @@ returns-in-None g c = record {
 
 pub returns-in-Some : goal.returns-in-Some
 returns-in-Some g c = record {
-  size = λ k l. c.record-len.ensures.size k l ∙ ap length (sym (encode_one _) ∙ sym (ap (λ (o : Option g.row.R.Denot). encode (present g.R.Message.fields k o)) c.in-Some.is));
-  bound = c.record-len.ensures.bound;
+  size = λ k l. c.record_len.ensures.size k l ∙ ap length (sym (encode_one _) ∙ sym (ap (λ (o : Option g.row.R.Denot). encode (present g.R.Message.fields k o)) c.in-Some.is));
+  bound = c.record_len.ensures.bound;
 }

@@ -7,6 +7,6 @@ returns-then-len-eq0 c = record { size = λ k b l e. sym (ap length (text-none k
 
 pub returns : goal.returns
 returns c = record {
-  size = λ k b l e. text-size k c.args.len _ b c.if-len-eq0.false e (c.field-len.ensures.size k b l e);
-  bound = c.field-len.ensures.bound;
+  size = λ k b l e. text-size k c.args.len _ b c.if-len-eq0.false e (c.field_len.ensures.size k b l e);
+  bound = c.field_len.ensures.bound;
 }

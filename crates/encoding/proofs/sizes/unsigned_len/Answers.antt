@@ -6,11 +6,11 @@ use Rattle.encoding.proofs.sizes.unsigned_len.Goals as goal
 pub returns-then-value-eq0 : goal.returns-then-value-eq0
 returns-then-value-eq0 c = record { size = λ k l. sym (ap length (number-none k c.args.value c.if-value-eq0.true)); bound = omega arith }
 
-pub overflow-add-result : goal.overflow-add-result
-overflow-add-result c = omega (arith, ten_bytes c.args.value (omega arith), c.varint-len.ensures)
+pub overflow_add-result : goal.overflow_add-result
+overflow_add-result c = omega (arith, ten_bytes c.args.value (omega arith), c.varint_len.ensures)
 
 pub returns : goal.returns
 returns c = record {
-  size = λ k l. ap (λ (n : ℕ). n + 1) c.varint-len.ensures ∙ number_size k c.args.value l c.if-value-eq0.false;
-  bound = omega (arith, ten_bytes c.args.value (omega arith), c.varint-len.ensures);
+  size = λ k l. ap (λ (n : ℕ). n + 1) c.varint_len.ensures ∙ number_size k c.args.value l c.if-value-eq0.false;
+  bound = omega (arith, ten_bytes c.args.value (omega arith), c.varint_len.ensures);
 }

@@ -4,16 +4,16 @@ use Rattle.encoding.specs.Varints.{cap_last, base128_end, base128_on, cap_on}
 use Rattle.encoding.specs.Layings.{then, laid_as}
 use Rattle.encoding.proofs.varint.+put_digits.Goals as goal
 
-pub overflow-cast-value : goal.overflow-cast-value
-overflow-cast-value t c = omega (arith, cap_last c.args.left c.args.value c.requires.small c.then-left-eq0.either)
+pub overflow_cast-value : goal.overflow_cast-value
+overflow_cast-value t c = omega (arith, cap_last c.args.left c.args.value c.requires.small c.then-left-eq0.either)
 
 pub returns-then-left-eq0 : goal.returns-then-left-eq0
-returns-then-left-eq0 t c = laid_as _ _ _ _ _ _ (sym (base128_end c.args.left c.args.value c.requires.small c.then-left-eq0.either)) c.put-byte.ensures
+returns-then-left-eq0 t c = laid_as _ _ _ _ _ _ (sym (base128_end c.args.left c.args.value c.requires.small c.then-left-eq0.either)) c.put_byte.ensures
 
-pub put-digits-requires : goal.put-digits-requires
-put-digits-requires t c = (omega arith, cap_on c.args.left c.args.value c.if-left-eq0.false c.requires.small)
+pub put_digits-requires : goal.put_digits-requires
+put_digits-requires t c = (omega arith, cap_on c.args.left c.args.value c.if-left-eq0.false c.requires.small)
 
 pub returns : goal.returns
 returns t c =
     laid_as _ _ _ _ _ _ (sym (base128_on c.args.left c.args.value c.if-left-eq0.false c.if-value-lt128.false))
-    (then ((c.args.value % 128 + 128) ∷ []) (base128 (c.args.left - 1) (c.args.value / 128)) c.args.out.now _ _ c.args.at _ _ (omega (arith, c.well-formed)) c.put-byte-next.ensures c.put-digits.ensures)
+    (then ((c.args.value % 128 + 128) ∷ []) (base128 (c.args.left - 1) (c.args.value / 128)) c.args.out.now _ _ c.args.at _ _ (omega (arith, c.well_formed)) c.put_byte-next.ensures c.put_digits.ensures)

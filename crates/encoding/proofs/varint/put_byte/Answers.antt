@@ -9,5 +9,5 @@ returns c = record {
     | then-at-out w ↦ w.out-is ∙ sym (laid-set c.args.at c.args.byte c.args.out.now)
     | else-at-out w ↦ w.out-is ∙ sym (laid-past c.args.at _ c.args.out.now w.if-at-out.false)
   ];
-  ends = c.saturating-add.ensures;
+  ends = c.saturating_add.ensures;
 }

@@ -4,12 +4,12 @@ use Rattle.encoding.specs.Layings.{then, laid_as}
 use Rattle.encoding.proofs.varint.put_varint.Goals as goal
 
 pub returns-then-value-lt128 : goal.returns-then-value-lt128
-returns-then-value-lt128 c = laid_as _ _ _ _ _ _ (sym (base128_last 9 c.args.value (omega (arith, cap_nine)) c.if-value-lt128.true)) c.put-byte.ensures
+returns-then-value-lt128 c = laid_as _ _ _ _ _ _ (sym (base128_last 9 c.args.value (omega (arith, cap_nine)) c.if-value-lt128.true)) c.put_byte.ensures
 
 pub returns-then-value-lt16384 : goal.returns-then-value-lt16384
 returns-then-value-lt16384 c =
     laid_as _ _ _ _ _ _ (sym (base128_two c.args.value c.if-value-lt128.false c.if-value-lt16384.true))
-    (then ((c.args.value % 128 + 128) ∷ []) ((c.args.value / 128) ∷ []) c.args.out.now _ _ c.args.at _ _ (omega (arith, c.well-formed)) c.put-byte-second.ensures c.put-byte-then-value-lt16384.ensures)
+    (then ((c.args.value % 128 + 128) ∷ []) ((c.args.value / 128) ∷ []) c.args.out.now _ _ c.args.at _ _ (omega (arith, c.well_formed)) c.put_byte-second.ensures c.put_byte-then-value-lt16384.ensures)
 
-pub put-digits-requires : goal.put-digits-requires
-put-digits-requires c = record { small = omega (arith, cap_nine) }
+pub put_digits-requires : goal.put_digits-requires
+put_digits-requires c = record { small = omega (arith, cap_nine) }

@@ -4,4 +4,4 @@ use Rattle.ciphers.proofs.cmac.Cmac.new.Goals as goal
 
 pub invariant_of-result : goal.invariant_of-result
 unfolding subkey1
-invariant_of-result c = (search rules, (c.double-k1.ensures ∙ ap dbl c.encrypt.ensures, tt))
+invariant_of-result c = record { whole = search rules; subkey = c.double-k1.ensures ∙ ap dbl c.encrypt.ensures }

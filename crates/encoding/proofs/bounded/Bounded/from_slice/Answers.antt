@@ -14,8 +14,8 @@ loop-i-preserved g c =
       kept_more c.loop-i.items (replicate g.row.N c.args.blank) c.loop-i.i c.index-from-i.result c.loop-i.invariant.2,
     )
 
-pub invariant-of-result : goal.invariant-of-result
-invariant-of-result g c = (omega arith, (c.loop-i.invariant.0, tt))
+pub invariant_of-result : goal.invariant_of-result
+invariant_of-result g c = record { fits = omega arith; full = c.loop-i.invariant.0 }
 
 pub returns : goal.returns
 returns g c = copied_all c.loop-i.items c.args.from.now c.loop-i.i g.row.N c.args.blank (omega arith) c.loop-i.invariant.1 c.loop-i.invariant.2

@@ -12,5 +12,5 @@ pub returns : goal.returns
 unfolding encrypted_keyset_fields fields_of_encrypted_keyset fields_of_keyset_info
 returns c =
     let r = c.args.self.now in
-    sizes (piece2 r) (tail2 r) _ _ (c.text-len-sealed.ensures.size 2 (list r.encrypted_keyset) (omega arith) c.len.ensures)
-    (size-alone (piece3 r) _ (c.present-len.ensures.size 3 (omega arith) ∙ ap (λ (fs : List Field). length (encode fs)) (present_view keyset_info_fields keyset_info_view 3 r.keyset_info)))
+    sizes (piece2 r) (tail2 r) _ _ (c.text_len-sealed.ensures.size 2 (list r.encrypted_keyset) (omega arith) c.len.ensures)
+    (size-alone (piece3 r) _ (c.present_len.ensures.size 3 (omega arith) ∙ ap (λ (fs : List Field). length (encode fs)) (present_view keyset_info_fields keyset_info_view 3 r.keyset_info)))

@@ -7,10 +7,10 @@ use Rattle.encoding.specs.KeyDatas.{sound, take1, take2}
 use Rattle.encoding.proofs.messages.KeyDataMessage.add_bytes.Goals as goal
 
 pub returns-in-1 : goal.returns-in-1
-returns-in-1 c = at-bytes fields_of_key_data c.fill-url.result c.args.self.now _ c.args.field 1 c.args.payload.now c.in-1.is (take1 _ c.args.self.now _ c.args.payload.now refl (c.fill-url.ensures 1))
+returns-in-1 c = at-bytes fields_of_key_data c.fill_url.result c.args.self.now _ c.args.field 1 c.args.payload.now c.in-1.is (take1 _ c.args.self.now _ c.args.payload.now refl (c.fill_url.ensures 1))
 
 pub returns-in-2 : goal.returns-in-2
-returns-in-2 c = at-bytes fields_of_key_data c.fill-bytes.result c.args.self.now _ c.args.field 2 c.args.payload.now c.in-2.is (take2 _ c.args.self.now _ c.args.payload.now refl refl (c.fill-bytes.ensures 2))
+returns-in-2 c = at-bytes fields_of_key_data c.fill_bytes.result c.args.self.now _ c.args.field 2 c.args.payload.now c.in-2.is (take2 _ c.args.self.now _ c.args.payload.now refl refl (c.fill_bytes.ensures 2))
 
-pub returns-in-default : goal.returns-in-default
-returns-in-default c = unknown fields_of_key_data key_data_knows 208 sound c.args.self.now _ (bytes c.args.field c.args.payload.now) (search rules) refl
+pub returns-in_default : goal.returns-in_default
+returns-in_default c = unknown fields_of_key_data key_data_knows 208 sound c.args.self.now _ (bytes c.args.field c.args.payload.now) (search rules) refl

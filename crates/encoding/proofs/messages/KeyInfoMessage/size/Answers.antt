@@ -9,7 +9,7 @@ pub returns : goal.returns
 unfolding key_info_fields fields_of_key_info
 returns c =
     let r = c.args.self.now in
-    sizes (piece1 r) (tail1 r) _ _ (c.text-len-url.ensures.size 1 _ (omega arith) (ap length c.as-bytes.ensures))
-    (sizes (piece2 r) (tail2 r) _ _ (signed-size 2 r.status _ r.status_width (c.signed-len-status.ensures.size 2 (omega arith)))
-    (sizes (piece3 r) (tail3 r) _ _ (c.unsigned-len-id.ensures.size 3 (omega arith))
-    (size-alone (piece4 r) _ (signed-size 4 r.output_prefix_type _ r.prefix_width (c.signed-len.ensures.size 4 (omega arith))))))
+    sizes (piece1 r) (tail1 r) _ _ (c.text_len-url.ensures.size 1 _ (omega arith) (ap length c.as_bytes.ensures))
+    (sizes (piece2 r) (tail2 r) _ _ (signed-size 2 r.status _ r.status_width (c.signed_len-status.ensures.size 2 (omega arith)))
+    (sizes (piece3 r) (tail3 r) _ _ (c.unsigned_len-id.ensures.size 3 (omega arith))
+    (size-alone (piece4 r) _ (signed-size 4 r.output_prefix_type _ r.prefix_width (c.signed_len.ensures.size 4 (omega arith))))))

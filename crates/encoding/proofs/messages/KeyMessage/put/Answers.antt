@@ -13,7 +13,7 @@ pub returns : goal.returns
 unfolding key_fields fields_of_key fields_of_key_data
 returns c =
     let r = c.args.self.now in
-    both (piece1 r) (tail1 r) _ _ _ _ _ _ (omega (arith, c.well-formed)) (laid_as _ _ _ _ _ _ (ap encode (present_view key_data_fields key_data_view 1 r.key_data)) c.put-present-second.ensures)
-    (both (piece2 r) (tail2 r) _ _ _ _ _ _ (omega (arith, c.well-formed, c.put-present-second.auto.out)) (signed_is 2 r.status _ _ _ _ r.status_width c.put-signed-third.ensures)
-    (both (piece3 r) (tail3 r) _ _ _ _ _ _ (omega (arith, c.well-formed, c.put-present-second.auto.out, c.put-signed-third.auto.out)) c.put-unsigned-fourth.ensures
-    (alone (piece4 r) _ _ _ _ (signed_is 4 r.output_prefix_type _ _ _ _ r.prefix_width c.put-signed.ensures))))
+    both (piece1 r) (tail1 r) _ _ _ _ _ _ (omega (arith, c.well_formed)) (laid_as _ _ _ _ _ _ (ap encode (present_view key_data_fields key_data_view 1 r.key_data)) c.put_present-second.ensures)
+    (both (piece2 r) (tail2 r) _ _ _ _ _ _ (omega (arith, c.well_formed, c.put_present-second.auto.out)) (signed_is 2 r.status _ _ _ _ r.status_width c.put_signed-third.ensures)
+    (both (piece3 r) (tail3 r) _ _ _ _ _ _ (omega (arith, c.well_formed, c.put_present-second.auto.out, c.put_signed-third.auto.out)) c.put_unsigned-fourth.ensures
+    (alone (piece4 r) _ _ _ _ (signed_is 4 r.output_prefix_type _ _ _ _ r.prefix_width c.put_signed.ensures))))

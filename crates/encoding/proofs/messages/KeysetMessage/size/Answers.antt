@@ -12,5 +12,5 @@ pub returns : goal.returns
 unfolding keyset_fields fields_of_keyset fields_of_key
 returns c =
     let r = c.args.self.now in
-    sizes_most (piece1 r) (piece2 r) _ _ _ (c.unsigned-len-id.ensures.size 1 (omega arith))
-    (c.each-len.ensures 2 (omega arith) ∙ ap (λ (fs : List Field). min (length (encode fs)) (2 ^ 64 - 1)) (each_view key_fields key_view 2 (list r.key))) c.saturating-add.ensures (omega (arith, (sound r).size))
+    sizes_most (piece1 r) (piece2 r) _ _ _ (c.unsigned_len-id.ensures.size 1 (omega arith))
+    (c.each_len.ensures 2 (omega arith) ∙ ap (λ (fs : List Field). min (length (encode fs)) (2 ^ 64 - 1)) (each_view key_fields key_view 2 (list r.key))) c.saturating_add.ensures (omega (arith, (sound r).size))

@@ -4,14 +4,14 @@ use Rattle.encoding.specs.Lists.{visible}
 use Rattle.encoding.proofs.Urls.{visible_bad, visible_more}
 use Rattle.encoding.proofs.url.TypeUrl.new.Goals as goal
 
-pub returns-then-not-is-visible : goal.returns-then-not-is-visible
-returns-then-not-is-visible c =
-    (c.new.ensures, λ p. visible_bad c.args.bytes.now c.loop-b.b-index (omega arith) (sym c.if-not-is-visible.ensures) p.1)
+pub returns-then-not-is_visible : goal.returns-then-not-is_visible
+returns-then-not-is_visible c =
+    (c.new.ensures, λ p. visible_bad c.args.bytes.now c.loop-b.b-index (omega arith) (sym c.if-not-is_visible.ensures) p.1)
 
 pub loop-b-preserved : goal.loop-b-preserved
-loop-b-preserved c = visible_more c.args.bytes.now c.loop-b.b-index (omega arith) c.loop-b.invariant (sym c.if-not-is-visible.ensures)
+loop-b-preserved c = visible_more c.args.bytes.now c.loop-b.b-index (omega arith) c.loop-b.invariant (sym c.if-not-is_visible.ensures)
 
-pub invariant-of-result : goal.invariant-of-result
-invariant-of-result c =
-    let e = c.in-ok-text.ensures in
-    (ap visible (e.0 ∙ sym (take_all c.loop-b.b-index c.args.bytes.now (omega arith))) ∙ c.loop-b.invariant, (e.1, tt))
+pub invariant_of-result : goal.invariant_of-result
+invariant_of-result c =
+    let e = c.in_ok-text.ensures in
+    record { seen = ap visible (e.0 ∙ sym (take_all c.loop-b.b-index c.args.bytes.now (omega arith))) ∙ c.loop-b.invariant; clean = e.1 }

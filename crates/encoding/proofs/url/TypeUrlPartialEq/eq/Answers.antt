@@ -8,7 +8,10 @@ use Rattle.std.proofs.lemmas.Bool.Decides.{Decides-eqb}
 
 pub returns : goal.returns
 returns c =
-    let d = slice_eq-Decides Decides-eqb _ _ _ c.eq.ensures in (
-      λ t. same_url c.args.self.now c.args.other.now (sym c.as-bytes.ensures ∙ d.0 t ∙ c.as-bytes-2.ensures),
-      λ e. d.1 (c.as-bytes.ensures ∙ ap (λ (u : TypeUrl). list u.text) e ∙ sym c.as-bytes-2.ensures),
-    )
+    let d = slice_eq-Decides Decides-eqb _ _ _ c.eq.ensures in record {
+      bytes = c.eq.ensures ∙ cc;
+      same = (
+        λ t. same_url c.args.self.now c.args.other.now (sym c.as_bytes.ensures ∙ d.0 t ∙ c.as_bytes-2.ensures),
+        λ e. d.1 (c.as_bytes.ensures ∙ ap (λ (u : TypeUrl). list u.text) e ∙ sym c.as_bytes-2.ensures),
+      );
+    }
