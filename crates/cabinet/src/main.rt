@@ -1,5 +1,7 @@
 // A cabinet seals a signal plan for its controller, opens it again, and refuses what was damaged on the way. It writes a
 // keyset as bytes and reads it back.
+#![tactic(auto)]
+
 use anyhow::anyhow;
 use ciphers::aead::Aead;
 use ciphers::draws::{CipherWords, Draws};

@@ -1,5 +1,7 @@
 // Examples of the rules of `ciphers`, as tests. The contracts say more; these are what a reader can run.
 // Expected values come from the standards and from another implementation of AES and SIV (Python's `cryptography`).
+#![tactic(auto)]
+
 #[cfg(test)]
 mod aeads;
 #[cfg(test)]

@@ -1,5 +1,7 @@
 // Tink's keyset records and their bytes, as the Protobuf encoding guide writes them: one writer, and one reader that accepts
 // exactly what the writer writes. Nothing here allocates, and no public call asks anything of its caller.
+#![tactic(auto)]
+
 pub mod bounded;
 pub mod claims;
 mod fill;

@@ -1,6 +1,8 @@
 // Replays a list of encodings, and says where the library answers otherwise than the list. A line is a record's name, its bytes
 // in hex (`-` for none) and the answer: `ok`, or the number, letter and place of the refusal. The list comes from the standard
 // input, or from the file that the first argument names; tools/exchange/make.py makes one.
+#![tactic(auto)]
+
 use ciphers::fault::Fault;
 use encoding::message::{Message, read, write};
 use encoding::records::{EncryptedKeyset, Key, KeyData, KeyInfo, KeyTemplate, Keyset, KeysetInfo};

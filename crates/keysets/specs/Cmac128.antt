@@ -1,9 +1,10 @@
 -- The manager of `junction/cmac128`: keys of 16 bytes from four words, for CMAC.
-use Rattle.std.specs.Prelude.{ℕ, cond, List, length, take, Ok, Err, codes, ◌==◌, nat_lt}
+use Rattle.std.specs.Prelude.{ℕ, ◌≤◌, cond, List, length, take, Ok, Err, codes, ◌==◌, nat_lt}
+use Rattle.std.proofs.Common.{rules}
 use Rattle.std.specs.List.{flat_map}
 use Rattle.ciphers.specs.Bytes.{word_bytes}
 use Rattle.keysets.specs.declared.registry.cmac128.MacKey.{MacKey}
-use Rattle.keysets.specs.Managers.{Maker, KeyMaker, Making, made, barred, dry}
+use Rattle.keysets.specs.Managers.{Maker, KeyMaker, Making, UrlFits, made, barred, dry}
 
 -- reason 1: the key has not 16 bytes
 abbrev pub cmac128_maker : Maker MacKey
@@ -22,3 +23,10 @@ cmac128_keys = record {
   material = 1;
   new_key = λ format words. cond (length format == 0) (four_words words) (barred 2);
 }
+
+-- the laws that need no more than counting
+pub cmac128_url_fits : UrlFits cmac128_maker.type_url
+cmac128_url_fits = search rules
+
+pub cmac128_material_known : cmac128_keys.material ≤ 4
+cmac128_material_known = search rules

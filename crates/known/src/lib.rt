@@ -1,6 +1,8 @@
 // Worked examples and laws of the standards as theorems: each function's contract is one, and none does anything.
 // They say that the definitions that the ciphers are proved against are the standards' own. They stand in a crate of
 // their own since they are slow to prove.
+#![tactic(auto)]
+
 ghost use Rattle.known.specs.Examples.{Inverts, ZeroStays, TellsApart, At53};
 ghost use Rattle.known.specs.Examples.{FipsC1, MacOfNone, MacOfForty, SivA1, S2vA2};
 

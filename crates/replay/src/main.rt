@@ -1,5 +1,7 @@
 // Replays a list of calls that tink-core has answered, and says where the library answers otherwise. The list comes from the
 // standard input, or from the file that the first argument names; docs/replay.md has its form.
+#![tactic(auto)]
+
 use crate::tally::Tally;
 use anyhow::anyhow;
 use std::{env, fs, io};

@@ -1,4 +1,6 @@
 // What the cabinet's program prints of bytes and records: all of it, in order, and nothing else.
+#![tactic(auto)]
+
 pub mod keys;
 
 ghost use Rattle.std.specs.Prelude.{◌≡◌, ◌<◌, [], ◌∷◌, ◌++◌, IfOk, string_bytes, OnOk};

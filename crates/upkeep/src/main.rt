@@ -1,4 +1,6 @@
 // Years of a keyset in a few calls: keys are made, disabled, brought back and destroyed, and the listing shows it each time.
+#![tactic(auto)]
+
 use anyhow::anyhow;
 use ciphers::draws::CipherWords;
 use ciphers::fault::Fault;

@@ -1,4 +1,6 @@
 // Runs the vectors of the file vectors.txt through the public calls of `ciphers`, and prints a line for each.
+#![tactic(auto)]
+
 use crate::vector::Vector;
 use anyhow::anyhow;
 use std::fs;

@@ -1,5 +1,5 @@
 // Public halves of chip keys: 32 bytes that the format brings in.
-ghost use Rattle.keysets.specs.ChipPublic.{chip_public_maker, chip_public_keys};
+ghost use Rattle.keysets.specs.ChipPublic.{chip_public_maker, chip_public_keys, chip_public_url_fits, chip_public_material_known};
 ghost use Rattle.std.proofs.Common.{rules};
 
 use crate::registry::key_manager::{KeyMaking, KeyManager, Primitives};
@@ -25,13 +25,13 @@ impl Primitives for ChipPublic {
 
     ghost maker = { λ _. chip_public_maker };
 
-    ghost url_fits = { Prim.search rules };
+    ghost url_fits = { λ _. chip_public_url_fits };
 }
 
 impl KeyMaking for ChipPublic {
     ghost keys = { λ _. chip_public_keys };
 
-    ghost material_known = { Prim.search rules };
+    ghost material_known = { λ _. chip_public_material_known };
 
     ghost lawful = { Prim.search rules };
 }

@@ -1,5 +1,5 @@
 // Keys for CMAC: 16 bytes from four words.
-ghost use Rattle.keysets.specs.Cmac128.{cmac128_maker, cmac128_keys};
+ghost use Rattle.keysets.specs.Cmac128.{cmac128_maker, cmac128_keys, cmac128_url_fits, cmac128_material_known};
 ghost use Rattle.std.proofs.Common.{rules};
 
 use crate::registry::key_manager::{KeyMaking, KeyManager, Primitives};
@@ -24,13 +24,13 @@ impl Primitives for Cmac128 {
 
     ghost maker = { λ _. cmac128_maker };
 
-    ghost url_fits = { Prim.search rules };
+    ghost url_fits = { λ _. cmac128_url_fits };
 }
 
 impl KeyMaking for Cmac128 {
     ghost keys = { λ _. cmac128_keys };
 
-    ghost material_known = { Prim.search rules };
+    ghost material_known = { λ _. cmac128_material_known };
 
     ghost lawful = { Prim.search rules };
 }

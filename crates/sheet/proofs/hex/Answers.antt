@@ -6,7 +6,7 @@ use Rattle.sheet.proofs.hex.Goals as goal
 pub loop-b-preserved : goal.loop-b-preserved
 loop-b-preserved c =
     let more = hex_codes_more c.args.bytes.now c.loop-b.b-index c.loop-b-test.true in
-    let pushed = c.in-ok-push-byte.ensures in
+    let pushed = c.in_ok-push_byte.ensures in
     cc
 
 pub returns : goal.returns

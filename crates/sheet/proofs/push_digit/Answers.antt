@@ -7,4 +7,4 @@ pub returns : goal.returns
 returns c =
     let old = string_bytes c.args.text.now in
     let one = c.push.ensures.ascii c.digit.ensures.ascii ∙ ap (λ (d : ℕ). d ∷ []) c.digit.ensures.code in
-    pushed {was = old} (encode c.digit.result) refl c.in-ok-push.was c.push.ensures.bytes ∙ ap (λ (l : List ℕ). old ++ l) one
+    pushed {was = old} (encode c.digit.result) refl c.in_ok-push.was c.push.ensures.bytes ∙ ap (λ (l : List ℕ). old ++ l) one

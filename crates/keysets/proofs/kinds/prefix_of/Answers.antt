@@ -16,4 +16,4 @@ listed Crunchy = refl
 pub returns : goal.returns
 returns c =
     let fits : SFits w32 c.args.n = c.ranges.n in
-    kind_known prefix_number prefixes listed c.args.n c.from-number.result (simp to_z-of_z at c.from-number.ensures)
+    kind_known prefix_number prefixes listed c.args.n c.from_number.result (simp to_z-of_z at c.from_number.ensures)

@@ -15,4 +15,4 @@ listed Destroyed = refl
 pub returns : goal.returns
 returns c =
     let fits : SFits w32 c.args.n = c.ranges.n in
-    kind_known status_number statuses listed c.args.n c.from-number.result (simp to_z-of_z at c.from-number.ensures)
+    kind_known status_number statuses listed c.args.n c.from_number.result (simp to_z-of_z at c.from_number.ensures)

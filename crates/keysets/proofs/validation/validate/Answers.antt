@@ -10,58 +10,58 @@ use Rattle.keysets.proofs.Elements.{viewed_at, viewed_within, viewed_past, viewe
 use Rattle.keysets.proofs.Judging.{judged, judged_none, judged_all, judged_ended, judged_invalid, judged_second, judged_passed}
 use Rattle.keysets.proofs.validation.validate.Goals as goal
 
-pub returns-then-is-empty : goal.returns-then-is-empty
+pub returns-then-is_empty : goal.returns-then-is_empty
 unfolding valid
-returns-then-is-empty c =
-    let ks = c.as-slice-keys.result.now in
+returns-then-is_empty c =
+    let ks = c.as_slice-keys.result.now in
     let p = c.args.keyset.now.primary_key_id in
-    ap Err c.new.ensures ∙ sym (judged_none p (map key_view ks) (viewed_none key_view ks (sym c.is-empty.ensures ∙ c.if-is-empty.true)))
-    ∙ ap (λ (xs : List Key). valid_among p (placed_from 0 (map key_view xs))) c.as-slice-keys.ensures
+    ap Err c.new.ensures ∙ sym (judged_none p (map key_view ks) (viewed_none key_view ks (sym c.is_empty.ensures ∙ c.if-is_empty.true)))
+    ∙ ap (λ (xs : List Key). valid_among p (placed_from 0 (map key_view xs))) c.as_slice-keys.ensures
 
-pub returns-in-err-at-place : goal.returns-in-err-at-place
+pub returns-in_err-at_place : goal.returns-in_err-at_place
 unfolding valid
-returns-in-err-at-place c =
-    let ks = c.as-slice-keys.result.now in
+returns-in_err-at_place c =
+    let ks = c.as_slice-keys.result.now in
     let p = c.args.keyset.now.primary_key_id in
     let i = c.loop-i.i in
     let k = c.index-keys-i.result in
     let lt : i < length ks = c.loop-i-test.true in
-    let q = err_from_is_err_and c.from-residual.result c.from-residual.ensures.1 in
+    let q = err_from_is_err_and c.from_residual.result c.from_residual.ensures.1 in
     let stop = judged_invalid p c.loop-i.seen i (map key_view ks) (key_view k) _ (viewed_within key_view ks i lt) (viewed_at key_view ks i k (key_view k) lt c.index-keys-i.is)
-    (c.in-err-at-place.ensures ∙ ap (at_place i) c.validate-key.ensures) in
-    q.1 ∙ ap Err q.2 ∙ sym stop ∙ c.loop-i.invariant ∙ judged_all p (map key_view ks) (viewed_some key_view ks (sym c.is-empty.ensures ∙ c.if-is-empty.false)) ∙ ap (λ (xs : List Key). valid_among p (placed_from 0 (map key_view xs))) c.as-slice-keys.ensures
+    (c.in_err-at_place.ensures ∙ ap (at_place i) c.validate_key.ensures) in
+    q.1 ∙ ap Err q.2 ∙ sym stop ∙ c.loop-i.invariant ∙ judged_all p (map key_view ks) (viewed_some key_view ks (sym c.is_empty.ensures ∙ c.if-is_empty.false)) ∙ ap (λ (xs : List Key). valid_among p (placed_from 0 (map key_view xs))) c.as_slice-keys.ensures
 
-pub returns-in-err-seen : goal.returns-in-err-seen
+pub returns-in_err-seen : goal.returns-in_err-seen
 unfolding valid
-returns-in-err-seen c =
-    let ks = c.as-slice-keys.result.now in
+returns-in_err-seen c =
+    let ks = c.as_slice-keys.result.now in
     let p = c.args.keyset.now.primary_key_id in
     let i = c.loop-i.i in
     let k = c.index-keys-i.result in
     let lt : i < length ks = c.loop-i-test.true in
-    let q = err_from_is_err_and c.from-residual-in-err-seen.result c.from-residual-in-err-seen.ensures.1 in
+    let q = err_from_is_err_and c.from_residual-in_err-seen.result c.from_residual-in_err-seen.ensures.1 in
     let stop = judged_second p c.loop-i.seen i (map key_view ks) (key_view k) _ (viewed_within key_view ks i lt) (viewed_at key_view ks i k (key_view k) lt c.index-keys-i.is)
-    (c.in-ok-at-place.ensures ∙ ap (at_place i) c.validate-key.ensures)
-    (gave_none i _ _ _ (c.in-err-seen.ensures ∙ ap (at_place i) c.after.ensures)) in
-    q.1 ∙ ap Err q.2 ∙ sym stop ∙ c.loop-i.invariant ∙ judged_all p (map key_view ks) (viewed_some key_view ks (sym c.is-empty.ensures ∙ c.if-is-empty.false)) ∙ ap (λ (xs : List Key). valid_among p (placed_from 0 (map key_view xs))) c.as-slice-keys.ensures
+    (c.in_ok-at_place.ensures ∙ ap (at_place i) c.validate_key.ensures)
+    (gave_none i _ _ _ (c.in_err-seen.ensures ∙ ap (at_place i) c.after.ensures)) in
+    q.1 ∙ ap Err q.2 ∙ sym stop ∙ c.loop-i.invariant ∙ judged_all p (map key_view ks) (viewed_some key_view ks (sym c.is_empty.ensures ∙ c.if-is_empty.false)) ∙ ap (λ (xs : List Key). valid_among p (placed_from 0 (map key_view xs))) c.as_slice-keys.ensures
 
 pub loop-i-preserved : goal.loop-i-preserved
 loop-i-preserved c =
-    let ks = c.as-slice-keys.result.now in
+    let ks = c.as_slice-keys.result.now in
     let p = c.args.keyset.now.primary_key_id in
     let i = c.loop-i.i in
     let k = c.index-keys-i.result in
     let lt : i < length ks = c.loop-i-test.true in
-    let more = gave i _ c.in-ok-seen.seen _ (c.in-ok-seen.ensures ∙ ap (at_place i) c.after.ensures) in
+    let more = gave i _ c.in_ok-seen.seen _ (c.in_ok-seen.ensures ∙ ap (at_place i) c.after.ensures) in
     ap (λ (s : Seen). judged p s (i + 1) (drop (i + 1) (map key_view ks))) more.0
     ∙ sym (judged_passed p c.loop-i.seen i (map key_view ks) (key_view k) (viewed_within key_view ks i lt) (viewed_at key_view ks i k (key_view k) lt c.index-keys-i.is)
-    (c.in-ok-at-place.ensures ∙ ap (at_place i) c.validate-key.ensures) more.1)
+    (c.in_ok-at_place.ensures ∙ ap (at_place i) c.validate_key.ensures) more.1)
     ∙ c.loop-i.invariant
 
 pub returns : goal.returns
 unfolding valid
 returns c =
-    let ks = c.as-slice-keys.result.now in
+    let ks = c.as_slice-keys.result.now in
     let p = c.args.keyset.now.primary_key_id in
     c.conclude.ensures ∙ sym (judged_ended p c.loop-i.seen c.loop-i.i (map key_view ks) (viewed_past key_view ks _ c.loop-i-test.false)) ∙ c.loop-i.invariant
-    ∙ judged_all p (map key_view ks) (viewed_some key_view ks (sym c.is-empty.ensures ∙ c.if-is-empty.false)) ∙ ap (λ (xs : List Key). valid_among p (placed_from 0 (map key_view xs))) c.as-slice-keys.ensures
+    ∙ judged_all p (map key_view ks) (viewed_some key_view ks (sym c.is_empty.ensures ∙ c.if-is_empty.false)) ∙ ap (λ (xs : List Key). valid_among p (placed_from 0 (map key_view xs))) c.as_slice-keys.ensures

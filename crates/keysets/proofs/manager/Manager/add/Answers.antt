@@ -19,7 +19,7 @@ pub returns-then-len-ge16 : goal.returns-then-len-ge16
 returns-then-len-ge16 g c =
     let s = keyset_view c.args.self.now.ks in
     let len = length-map (list c.args.self.now.ks.key) key_view in
-    let is = added_full (registered g.M.Primitives.maker g.M.KeyMaking.keys c.args.registry.now.bank.now) (key_template_view c.args.kt.now) c.args.as-primary s (g.D.Draws.left c.args.words.now) (omega arith) in
+    let is = added_full (registered g.M.Primitives.maker g.M.KeyMaking.keys c.args.registry.now.bank.now) (key_template_view c.args.kt.now) c.args.as_primary s (g.D.Draws.left c.args.words.now) (omega arith) in
     record {
       after = sym (ap (λ (a : Added). a.keyset) is);
       distinct = λ d. d;
@@ -28,13 +28,13 @@ returns-then-len-ge16 g c =
       value = ap (λ (f : Fault). Err f) c.new.ensures ∙ sym (ap (λ (a : Added). a.answer) is);
     }
 
-pub returns-in-err-key : goal.returns-in-err-key
-returns-in-err-key g c =
+pub returns-in_err-key : goal.returns-in_err-key
+returns-in_err-key g c =
     let s = keyset_view c.args.self.now.ks in
     let len = length-map (list c.args.self.now.ks.key) key_view in
-    let p = err_from_is_err_and c.from-residual.result c.from-residual.ensures.1 in
-    let is = added-made (registered g.M.Primitives.maker g.M.KeyMaking.keys c.args.registry.now.bank.now) (key_template_view c.args.kt.now) c.args.as-primary s (g.D.Draws.left c.args.words.now)
-    (Err c.in-err-key.field-0.0) (g.D.Draws.left c.make-key.new.words) (omega arith) c.in-err-key.ensures.key c.make-key.ensures.words in
+    let p = err_from_is_err_and c.from_residual.result c.from_residual.ensures.1 in
+    let is = added-made (registered g.M.Primitives.maker g.M.KeyMaking.keys c.args.registry.now.bank.now) (key_template_view c.args.kt.now) c.args.as_primary s (g.D.Draws.left c.args.words.now)
+    (Err c.in_err-key.field-0.0) (g.D.Draws.left c.make_key.new.words) (omega arith) c.in_err-key.ensures.key c.make_key.ensures.words in
     record {
       after = ap (λ (a : Added). a.keyset) is;
       distinct = λ d. d;
@@ -50,17 +50,17 @@ pub returns : goal.returns
 returns g c =
     let s = keyset_view c.args.self.now.ks in
     let len = length-map (list c.args.self.now.ks.key) key_view in
-    let is = added-made (registered g.M.Primitives.maker g.M.KeyMaking.keys c.args.registry.now.bank.now) (key_template_view c.args.kt.now) c.args.as-primary s (g.D.Draws.left c.args.words.now)
-    (Ok (key_view c.in-ok-key.key)) (g.D.Draws.left c.make-key.new.words) (omega arith) c.in-ok-key.ensures.key c.make-key.ensures.words in
+    let is = added-made (registered g.M.Primitives.maker g.M.KeyMaking.keys c.args.registry.now.bank.now) (key_template_view c.args.kt.now) c.args.as_primary s (g.D.Draws.left c.args.words.now)
+    (Ok (key_view c.in_ok-key.key)) (g.D.Draws.left c.make_key.new.words) (omega arith) c.in_ok-key.ensures.key c.make_key.ensures.words in
     let ms = registered g.M.Primitives.maker g.M.KeyMaking.keys c.args.registry.now.bank.now in
     let value = ap (λ (a : Added). a.answer) is in
     let after = c.append.ensures ∙ ap (λ (a : Added). a.keyset) is in
     record {
       after = after;
-      distinct = λ d. subst (λ (t : KeysetMeaning). DistinctIds t.keys) (sym after) (added_distinct (registered g.M.Primitives.maker g.M.KeyMaking.keys c.args.registry.now.bank.now) (key_template_view c.args.kt.now) c.args.as-primary s (g.D.Draws.left c.args.words.now) d);
-      usable = subst (λ (t : KeysetMeaning). NewKeyUsable ms (length s.keys) t (Ok c.in-ok-key.key.key_id)) (sym after)
-          (subst (NewKeyUsable ms (length s.keys) (added ms (key_template_view c.args.kt.now) c.args.as-primary s (g.D.Draws.left c.args.words.now)).keyset) (sym value)
-          (added-usable ms (key_template_view c.args.kt.now) c.args.as-primary s (g.D.Draws.left c.args.words.now) (registered-lawful g.M.Primitives.maker g.M.KeyMaking.keys (λ m. record {
+      distinct = λ d. subst (λ (t : KeysetMeaning). DistinctIds t.keys) (sym after) (added_distinct (registered g.M.Primitives.maker g.M.KeyMaking.keys c.args.registry.now.bank.now) (key_template_view c.args.kt.now) c.args.as_primary s (g.D.Draws.left c.args.words.now) d);
+      usable = subst (λ (t : KeysetMeaning). NewKeyUsable ms (length s.keys) t (Ok c.in_ok-key.key.key_id)) (sym after)
+          (subst (NewKeyUsable ms (length s.keys) (added ms (key_template_view c.args.kt.now) c.args.as_primary s (g.D.Draws.left c.args.words.now)).keyset) (sym value)
+          (added-usable ms (key_template_view c.args.kt.now) c.args.as_primary s (g.D.Draws.left c.args.words.now) (registered-lawful g.M.Primitives.maker g.M.KeyMaking.keys (λ m. record {
             url = g.M.Primitives.url_fits m;
             material = g.M.KeyMaking.material_known m;
             making = g.met.M.KeyMaking.lawful m;

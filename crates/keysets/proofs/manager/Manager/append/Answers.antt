@@ -6,18 +6,18 @@ use Rattle.encoding.specs.Views.{key_view}
 use Rattle.keysets.proofs.Appending.{pushed_there, appended}
 use Rattle.keysets.proofs.manager.Manager.append.Goals as goal
 
-pub returns-then-as-primary : goal.returns-then-as-primary
-returns-then-as-primary c =
+pub returns-then-as_primary : goal.returns-then-as_primary
+returns-then-as_primary c =
     let old = list c.args.self.now.ks.key in
     let len = length-map old key_view in
     let at = pushed_there c.push.result old (list c.push.new.self) c.args.key _ _ (omega arith) c.push.ensures in
-    appended c.args.as-primary c.args.key old (list c.push.new.self) c.args.self.now.ks.primary_key_id _ at
-    (sym (cond-true c.args.as-primary _ _ c.if-as-primary.true))
+    appended c.args.as_primary c.args.key old (list c.push.new.self) c.args.self.now.ks.primary_key_id _ at
+    (sym (cond-true c.args.as_primary _ _ c.if-as_primary.true))
 
-pub returns-else-as-primary : goal.returns-else-as-primary
-returns-else-as-primary c =
+pub returns-else-as_primary : goal.returns-else-as_primary
+returns-else-as_primary c =
     let old = list c.args.self.now.ks.key in
     let len = length-map old key_view in
     let at = pushed_there c.push.result old (list c.push.new.self) c.args.key _ _ (omega arith) c.push.ensures in
-    appended c.args.as-primary c.args.key old (list c.push.new.self) c.args.self.now.ks.primary_key_id _ at
-    (sym (cond-false c.args.as-primary _ _ c.if-as-primary.false))
+    appended c.args.as_primary c.args.key old (list c.push.new.self) c.args.self.now.ks.primary_key_id _ at
+    (sym (cond-false c.args.as_primary _ _ c.if-as_primary.false))

@@ -7,11 +7,11 @@ use Rattle.encoding.specs.Views.{fields_of_keyset}
 use Rattle.keysets.proofs.Writing.{wrote-within, wrote-front}
 use Rattle.keysets.proofs.manager.Manager.has_encoding.Goals as goal
 
-pub slice-bounds-out-end : goal.slice-bounds-out-end
-slice-bounds-out-end c = wrote-within _ _ _ _ c.in-Ok.ensures
+pub slice_bounds-out-end : goal.slice_bounds-out-end
+slice_bounds-out-end c = wrote-within _ _ _ _ c.in-Ok.ensures
 
-pub slice-bounds-same-end : goal.slice-bounds-same-end
-slice-bounds-same-end c = sym (length-take-le _ _ (wrote-within _ _ _ _ c.in-Ok.ensures))
+pub slice_bounds-same-end : goal.slice_bounds-same-end
+slice_bounds-same-end c = sym (length-take-le _ _ (wrote-within _ _ _ _ c.in-Ok.ensures))
 
 pub returns-in-Ok : goal.returns-in-Ok
 unfolding fields_of_keyset

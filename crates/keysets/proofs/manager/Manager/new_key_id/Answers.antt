@@ -9,27 +9,27 @@ loop-word-preserved g c =
     let ks = (keyset_view c.args.self.now.ks).keys in
     let all = g.D.Draws.left c.args.words.now in
     let after = g.D.Draws.left c.draw.new.self in
-    let w = c.in-ok-word.word in
+    let w = c.in_ok-word.word in
     let inv = c.loop-word.invariant in
     let k = inv.0 in
-    let here = drew _ w c.in-ok-word.ensures.word ∙ ap (λ (l : List ℕ). w ∷ l) (sym c.draw.ensures.rest) in (
+    let here = drew _ w c.in_ok-word.ensures.word ∙ ap (λ (l : List ℕ). w ∷ l) (sym c.draw.ensures.rest) in (
       k + 1,
-      c.saturating-add-taken.ensures ∙ counted_more k _ inv.1,
+      c.saturating_add-taken.ensures ∙ counted_more k _ inv.1,
       left-more ks all _ after k w inv.2 inv.3 here,
-      passed ks all _ after k w inv.2 inv.3 here (sym c.is-present.ensures ∙ c.if-not-is-present.false),
+      passed ks all _ after k w inv.2 inv.3 here (sym c.is_present.ensures ∙ c.if-not-is_present.false),
     )
 
-pub returns-then-not-is-present : goal.returns-then-not-is-present
-returns-then-not-is-present g c =
+pub returns-then-not-is_present : goal.returns-then-not-is_present
+returns-then-not-is_present g c =
     let ks = (keyset_view c.args.self.now.ks).keys in
     let all = g.D.Draws.left c.args.words.now in
     let after = g.D.Draws.left c.draw.new.self in
-    let w = c.in-ok-word.word in
+    let w = c.in_ok-word.word in
     let inv = c.loop-word.invariant in
     let k = inv.0 in
-    let here = drew _ w c.in-ok-word.ensures.word ∙ ap (λ (l : List ℕ). w ∷ l) (sym c.draw.ensures.rest) in
-    let id = taken ks all _ after k w inv.2 inv.3 here (sym c.is-present.ensures ∙ c.if-not-is-present.true) in
-    let count = c.saturating-add-taken.ensures ∙ counted_more k _ inv.1 in
+    let here = drew _ w c.in_ok-word.ensures.word ∙ ap (λ (l : List ℕ). w ∷ l) (sym c.draw.ensures.rest) in
+    let id = taken ks all _ after k w inv.2 inv.3 here (sym c.is_present.ensures ∙ c.if-not-is_present.true) in
+    let count = c.saturating_add-taken.ensures ∙ counted_more k _ inv.1 in
     record {
       id = ap (λ (n : ℕ). Ok (w, n)) count ∙ sym (ap id_answer id);
       words = left-more ks all _ after k w inv.2 inv.3 here ∙ sym (ap (λ (o : Option DrawnId). words_after_id o all) id);

@@ -5,8 +5,8 @@ use Rattle.keysets.proofs.registry.Registry.get_key_manager.Goals as goal
 pub loop-i-preserved : goal.loop-i-preserved
 loop-i-preserved g c = search (rules, drop_more)
 
-pub returns-then-does-support : goal.returns-then-does-support
-returns-then-does-support g c = search (rules, drop_more)
+pub returns-then-does_support : goal.returns-then-does_support
+returns-then-does_support g c = search (rules, drop_more)
 
 pub returns : goal.returns
 returns g c = search (rules, drop_all)
