@@ -1,5 +1,5 @@
 -- Words expanded one by one are KEYEXPANSION's, and the rounds over them are CIPHER.
-use Rattle.std.proofs.Common.{◌≡◌, ℕ, zero, suc, ◌+◌, ◌-◌, ◌*◌, ◌/◌, ◌%◌, ◌<◌, ◌≤◌, cond, eqb, ◌≢◌, List, [], ◌∷◌, ◌++◌, map, length, get_or, take, drop, set, sym, refl, ap, ◌∙◌, subst, add-one, arith}
+use Rattle.std.proofs.Common.{◌≡◌, ℕ, ◌+◌, ◌-◌, ◌*◌, ◌/◌, ◌%◌, ◌<◌, ◌≤◌, cond, eqb, ◌≢◌, List, [], ◌∷◌, ◌++◌, map, length, get_or, take, set, sym, refl, ap, ◌∙◌, add-one, arith}
 use lib.Bits.{bit_xor}
 use Rattle.std.proofs.lemmas.List.{get_or-map, get_or-take, get_or-set_other, length-map, length-take-le, take_more_set, take_all, map_push}
 use Rattle.ciphers.specs.Bytes.{word_bytes, xors}

@@ -1,9 +1,9 @@
 -- A running tag, piece by piece.
-use Rattle.std.proofs.Common.{◌≡◌, ℕ, ◌+◌, ◌-◌, ◌<◌, ◌≤◌, List, [], ◌∷◌, ◌++◌, length, get_or, take, drop, set, sym, refl, ap, ◌∙◌, append_assoc, arith}
+use Rattle.std.proofs.Common.{◌≡◌, ℕ, ◌+◌, ◌<◌, ◌≤◌, List, [], ◌∷◌, ◌++◌, length, get_or, take, drop, set, sym, refl, ap, ◌∙◌, arith}
 use Rattle.std.proofs.lemmas.List.{take_all, take_more_set, take-append-drop, length-take-le, drop_more}
 use Rattle.ciphers.specs.Bytes.{xors}
 use Rattle.ciphers.specs.Fips197.{cipher}
-use Rattle.ciphers.specs.Rfc4493.{Held, start, absorb, finish, cmac}
+use Rattle.ciphers.specs.Rfc4493.{Held, absorb, cmac}
 use Rattle.ciphers.specs.Tagging.{Progress, begun, absorbed, absorbed_all, join, tag_of, turned_over, held_with, TagsJoin}
 use Rattle.ciphers.proofs.Absorbing.{absorb-append, absorb-held, absorb-full, cmac-is}
 

@@ -2,7 +2,7 @@
 use Rattle.std.proofs.Common.{◌≡◌, ℕ, zero, suc, ◌+◌, ◌-◌, ◌*◌, ◌/◌, ◌%◌, ◌^◌, ◌<◌, ◌≤◌, List, [], ◌∷◌, ◌++◌, length, get_or, take, drop, set, sym, refl, ap, ◌∙◌, subst, append_assoc, add-zero, add-suc, suc-add, zero-add, add-one, arith, length-append, length-drop}
 use lib.Bits.{bit_xor, xor_assoc, xor_self, xor_zero_r}
 use borrow.Rule.Slice.PartMut.{put_mid}
-use Rattle.std.proofs.lemmas.List.{take_all, take_at, drop_at, take_rest, drop_more, drop-drop, take-append-drop, length-take-le, get_or-drop, set_at, append-nil}
+use Rattle.std.proofs.lemmas.List.{take_all, take_at, drop_at, drop_more, drop-drop, length-take-le, get_or-drop, set_at}
 use Rattle.ciphers.specs.Bytes.{xors, bytes}
 use Rattle.ciphers.specs.Rfc4493.{Cipher}
 use Rattle.ciphers.specs.Rfc5297.{counter, key_byte, masked_from, masked, MasksTwice}

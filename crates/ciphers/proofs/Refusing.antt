@@ -1,5 +1,5 @@
 -- What follows where the tests of encrypt and decrypt refuse, and where they pass.
-use Rattle.std.proofs.Common.{◌≡◌, ℕ, ◌≤◌, Bool, true, false, cond, ltb, List, ◌++◌, length, Some, None, Ok, Err, Option, Result, sym, refl, ap, ◌∙◌, subst, arith}
+use Rattle.std.proofs.Common.{◌≡◌, ℕ, ◌≤◌, Bool, true, false, cond, ltb, List, length, Some, None, Ok, Err, Option, Result, sym, refl, ap, ◌∙◌, subst, arith}
 use Rattle.std.proofs.lemmas.Bool.{cond-true, ltb-false}
 use Rattle.ciphers.specs.declared.fault.Fault.{Fault}
 use Rattle.ciphers.specs.declared.fault.Layer.TheVariants.{Aead}

@@ -1,5 +1,5 @@
 -- What every Aead owes for an accepted call, from its ciphertext or its plaintext and the way that the output was written.
-use Rattle.std.proofs.Common.{◌≡◌, ℕ, ◌+◌, ◌-◌, ◌<◌, ◌≤◌, Bool, true, false, cond, ltb, List, [], ◌∷◌, ◌++◌, length, take, drop, Some, None, Ok, Err, Option, Result, sym, refl, ap, ◌∙◌, append_assoc, arith, length-append, length-drop}
+use Rattle.std.proofs.Common.{◌≡◌, ℕ, ◌+◌, ◌-◌, ◌≤◌, Bool, false, ltb, List, [], ◌++◌, length, take, drop, Some, Ok, Option, Result, sym, ap, ◌∙◌, append_assoc, arith, length-append, length-drop}
 use borrow.Rule.Slice.PartMut.{put_mid}
 use Rattle.std.proofs.lemmas.List.{take_at, take_rest, drop_at, drop_all, drop-drop, append-nil}
 use Rattle.std.proofs.lemmas.Bool.{cond-false, le-ltb}

@@ -1,6 +1,5 @@
 -- The first word of a list and the words after it.
-use Rattle.std.proofs.Common.{◌≡◌, ℕ, suc, ◌+◌, ◌-◌, ◌<◌, List, [], ◌∷◌, length, get_or, drop, Ok, Err, Result, refl, ap, arith}
-use Rattle.ciphers.specs.declared.fault.Fault.{Fault}
+use Rattle.std.proofs.Common.{◌≡◌, ℕ, suc, ◌+◌, ◌-◌, ◌<◌, List, [], ◌∷◌, length, get_or, drop, Ok, refl, ap, arith}
 use Rattle.ciphers.specs.Drawn.{first_word, other_words, cipher_word, cipher_words}
 use Rattle.ciphers.specs.Rfc4493.{Cipher}
 

@@ -1,5 +1,5 @@
 -- Bytes, words and blocks as lists of numbers below 256, the highest byte first.
-use Rattle.std.specs.Prelude.{ℕ, zero, suc, ◌+◌, ◌*◌, ◌/◌, ◌%◌, ◌^◌, List, [], ◌∷◌, ◌++◌, replicate, bit_xor}
+use Rattle.std.specs.Prelude.{ℕ, zero, suc, ◌+◌, ◌*◌, ◌/◌, ◌%◌, ◌^◌, List, [], ◌∷◌, replicate, bit_xor}
 use Rattle.std.specs.Simd.Lanes.{zip2}
 
 -- byte by byte

@@ -1,5 +1,5 @@
 -- RFC 5297: S2V, the counter mode of SIV, and SIV itself, over block ciphers A (for S2V) and E (for the counter mode).
-use Rattle.std.specs.Prelude.{◌≡◌, ℕ, zero, suc, ◌+◌, ◌-◌, ◌*◌, ◌/◌, ◌%◌, ◌^◌, Bool, true, false, cond, List, [], ◌∷◌, ◌++◌, length, take, drop, replicate, Some, None, Option, bit_and, bit_xor, nat_lt, slice_index}
+use Rattle.std.specs.Prelude.{◌≡◌, ℕ, suc, ◌+◌, ◌-◌, ◌/◌, ◌%◌, ◌^◌, Bool, false, cond, List, [], ◌∷◌, ◌++◌, length, take, drop, replicate, Some, None, Option, bit_and, bit_xor, nat_lt, slice_index}
 use Rattle.std.specs.Str.{bytes_eq}
 use Rattle.ciphers.specs.Bytes.{xors, zeros, number, bytes}
 use Rattle.ciphers.specs.Fips197.{cipher}

@@ -1,5 +1,5 @@
 -- Reading undoes writing.
-use Rattle.std.proofs.Common.{◌≡◌, ℕ, ◌-◌, ◌≤◌, Bool, List, ◌++◌, length, take, drop, IfOk, Ok, Err, Result, sym, ap, ◌∙◌, arith, MatchResult}
+use Rattle.std.proofs.Common.{◌≡◌, ℕ, ◌-◌, ◌≤◌, Bool, List, length, take, drop, IfOk, Ok, Err, Result, sym, ap, ◌∙◌, arith, MatchResult}
 use Rattle.std.proofs.lemmas.List.{take_at, length-append, length-drop}
 use Rattle.ciphers.specs.declared.fault.Fault.{Fault}
 use Rattle.encoding.specs.Wire.{Field, encode}

@@ -1,21 +1,15 @@
 -- Each record means something within the limits, and each such meaning is some record's.
-use Rattle.std.proofs.Common.{◌≡◌, ℕ, zero, suc, ◌+◌, ◌-◌, ◌^◌, ◌<◌, ◌≤◌, true, List, [], ◌∷◌, ◌++◌, map, length, take, drop, replicate, pos, IfSome, Some, None, Option, sym, refl, ap, ◌∙◌, subst, arith}
+use Rattle.std.proofs.Common.{◌≡◌, ℕ, ◌-◌, ◌≤◌, List, [], ◌∷◌, ◌++◌, map, length, replicate, pos, IfSome, Some, None, Option, refl, ap, ◌∙◌, arith}
 use Rattle.std.specs.Option.{option_map}
 use Rattle.std.specs.List.{AllByRecursion as All}
 use Rattle.std.proofs.lemmas.List.{take_at, drop_at, length-append, length-replicate, length-map}
-use Rattle.encoding.specs.Lists.{list, unused, visible}
+use Rattle.encoding.specs.Lists.{list, visible}
 use Rattle.encoding.specs.Limits.{UrlWithin, KeyDataWithin, KeyTemplateWithin, KeyWithin, KeysetWithin, KeyInfoWithin, KeysetInfoWithin, EncryptedKeysetWithin, Exactly}
-use Rattle.encoding.specs.Meanings.{KeyDataMeaning, KeyTemplateMeaning, KeyMeaning, KeysetMeaning, KeyInfoMeaning, KeysetInfoMeaning, EncryptedKeysetMeaning}
 use Rattle.encoding.specs.Views.{url_bytes, key_data_view, key_template_view, key_view, keyset_view, key_info_view, keyset_info_view, encrypted_keyset_view}
 use Rattle.encoding.specs.declared.bounded.Bounded.{Bounded}
 use Rattle.encoding.specs.declared.url.TypeUrl.{TypeUrl}
-use Rattle.encoding.specs.declared.records.KeyData.{KeyData}
-use Rattle.encoding.specs.declared.records.KeyTemplate.{KeyTemplate}
 use Rattle.encoding.specs.declared.records.Key.{Key}
-use Rattle.encoding.specs.declared.records.Keyset.{Keyset}
 use Rattle.encoding.specs.declared.records.KeyInfo.{KeyInfo}
-use Rattle.encoding.specs.declared.records.KeysetInfo.{KeysetInfo}
-use Rattle.encoding.specs.declared.records.EncryptedKeyset.{EncryptedKeyset}
 use Rattle.encoding.specs.ListsLemmas.{list_length}
 
 short : {T : Type 0} {n : ℕ} (b : Bounded T n) → length (list b) ≤ n

@@ -1,9 +1,9 @@
 -- Records inside records: one that may be absent, and a list of them.
-use Rattle.std.proofs.Common.{◌≡◌, ℕ, zero, suc, ◌+◌, ◌<◌, ◌≤◌, List, [], ◌∷◌, ◌++◌, map, length, Some, None, Option, sym, refl, ap, ◌∙◌, subst, arith}
+use Rattle.std.proofs.Common.{◌≡◌, ℕ, suc, List, [], ◌∷◌, ◌++◌, map, length, Some, None, Option, ap, ◌∙◌, arith}
 use Rattle.std.proofs.lemmas.List.{length-append, length-map, map_push}
 use Rattle.encoding.specs.Wire.{Field, bytes, encode}
 use Rattle.encoding.specs.Members.{present, each}
-use Rattle.encoding.specs.Messages.{Place, Unread}
+use Rattle.encoding.specs.Messages.{Unread}
 use Rattle.encoding.specs.Lists.{list}
 use Rattle.encoding.specs.declared.bounded.Bounded.{Bounded}
 use Rattle.encoding.specs.ListsLemmas.{list_length}

@@ -1,9 +1,8 @@
 -- What two varints at the front of some bytes say of the field there.
-use Rattle.std.proofs.Common.{◌≡◌, ℕ, zero, suc, ◌+◌, ◌-◌, ◌*◌, ◌/◌, ◌%◌, ◌^◌, ◌<◌, ◌≤◌, Bool, true, false, cond, ◌⊎◌, List, [], ◌∷◌, ◌++◌, length, take, drop, Some, None, Option, sym, refl, ap, ◌∙◌, subst, inl, inr, arith}
-use Rattle.std.proofs.lemmas.List.{length-append, append_assoc, append-nil, append_cancel_left, take-append-drop, length-take-le, length-drop, drop-drop, take_at, drop_at}
+use Rattle.std.proofs.Common.{◌≡◌, ℕ, ◌+◌, ◌-◌, ◌*◌, ◌/◌, ◌%◌, ◌<◌, ◌≤◌, true, false, ◌⊎◌, List, [], ◌++◌, length, take, drop, Some, None, sym, refl, ap, ◌∙◌, inl, inr, arith}
+use Rattle.std.proofs.lemmas.List.{length-append, append_assoc, take-append-drop, length-take-le, length-drop, drop-drop, drop_at}
 use Rattle.encoding.specs.Wire.{varint, Field, number, bytes, encode_field, Small}
-use Rattle.encoding.specs.Scanning.{cap, unvarint, IsField, NoField, field_at}
-use Rattle.encoding.specs.declared.scan.Piece.{Piece}
+use Rattle.encoding.specs.Scanning.{cap, unvarint, IsField, NoField}
 use Rattle.encoding.specs.Varints.{Reads, complete, sound, first, second, none-some, cap_nine}
 
 abbrev key_of : Field → ℕ

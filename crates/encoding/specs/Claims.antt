@@ -1,5 +1,5 @@
 -- What is claimed of the encoding as a whole.
-use Rattle.std.specs.Prelude.{◌≡◌, ℕ, List, [], ◌∷◌, pos, None}
+use Rattle.std.specs.Prelude.{◌≡◌, List, [], ◌∷◌, pos, None}
 use Rattle.encoding.specs.Wire.{Field, encode}
 use Rattle.encoding.specs.Meanings.{KeyMeaning, keyset_of, keyset_fields}
 use Rattle.encoding.specs.Views.{key_data_view, key_template_view, key_view, keyset_view, key_info_view, keyset_info_view, encrypted_keyset_view}

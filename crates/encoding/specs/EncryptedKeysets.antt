@@ -1,8 +1,8 @@
 -- EncryptedKeyset, by its two parts.
-use Rattle.std.specs.Prelude.{◌≡◌, ℕ, ◌^◌, ◌<◌, Bool, List, [], ◌∷◌, ◌++◌, map, refl}
+use Rattle.std.specs.Prelude.{◌≡◌, ℕ, Bool, List, [], ◌++◌, refl}
 use Rattle.std.proofs.Common.{sym, ◌∙◌, arith}
 use Rattle.std.specs.Option.{option_map}
-use Rattle.encoding.specs.Wire.{Field, number, bytes, encode}
+use Rattle.encoding.specs.Wire.{Field, bytes, encode}
 use Rattle.encoding.specs.Members.{present, text}
 use Rattle.encoding.specs.Known.{encrypted_keyset_knows}
 use Rattle.encoding.specs.Lists.{list}

@@ -1,6 +1,6 @@
 -- KeyData, by its three parts.
-use Rattle.std.specs.Prelude.{◌≡◌, ℕ, ◌^◌, ◌<◌, Bool, List, [], ◌∷◌, ◌++◌, map, refl}
-use Rattle.std.proofs.Common.{sym, ◌∙◌, arith, SFits}
+use Rattle.std.specs.Prelude.{◌≡◌, ℕ, Bool, List, [], ◌++◌, refl}
+use Rattle.std.proofs.Common.{arith, SFits}
 use Rattle.std.specs.Int.{w32}
 use Rattle.encoding.specs.Wire.{Field, number, bytes, encode}
 use Rattle.encoding.specs.Members.{signed, text}

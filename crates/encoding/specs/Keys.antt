@@ -1,12 +1,11 @@
 -- Key, by its four parts.
-use Rattle.std.specs.Prelude.{◌≡◌, ℕ, ◌^◌, ◌<◌, Bool, List, [], ◌∷◌, ◌++◌, map, refl}
+use Rattle.std.specs.Prelude.{◌≡◌, ℕ, ◌^◌, ◌<◌, Bool, List, [], ◌++◌, refl}
 use Rattle.std.proofs.Common.{sym, ◌∙◌, arith, SFits}
 use Rattle.std.specs.Int.{w32}
 use Rattle.std.specs.Option.{option_map}
 use Rattle.encoding.specs.Wire.{Field, number, bytes, encode}
 use Rattle.encoding.specs.Members.{present, signed, unsigned}
 use Rattle.encoding.specs.Known.{key_knows}
-use Rattle.encoding.specs.Lists.{list}
 use Rattle.encoding.specs.Meanings.{key_fields, key_data_fields}
 use Rattle.encoding.specs.Views.{key_view, fields_of_key, key_data_view, fields_of_key_data}
 use Rattle.encoding.specs.Messages.{Sound, Took, Filled}

@@ -1,5 +1,5 @@
 -- KeysetInfo, by its two parts.
-use Rattle.std.specs.Prelude.{◌≡◌, ℕ, ◌^◌, ◌<◌, Bool, List, [], ◌∷◌, ◌++◌, map, refl}
+use Rattle.std.specs.Prelude.{◌≡◌, ℕ, ◌^◌, ◌<◌, Bool, List, [], ◌++◌, map, refl}
 use Rattle.std.proofs.Common.{sym, ◌∙◌, arith}
 use Rattle.encoding.specs.Wire.{Field, number, bytes, encode}
 use Rattle.encoding.specs.Members.{each, unsigned}

@@ -1,7 +1,7 @@
 -- Lists that lie at the front of an array.
-use Rattle.std.specs.Prelude.{◌≡◌, ℕ, zero, suc, ◌+◌, ◌-◌, ◌<◌, ◌≤◌, Bool, true, false, List, [], ◌∷◌, ◌++◌, length, get_or, take, drop, replicate, Some, None, Option, slice_index_or, slice_set, refl}
-use Rattle.std.proofs.Common.{sym, ◌∙◌, ap, subst, arith, add-one}
-use Rattle.std.proofs.lemmas.List.{take_more, take_more_set, length-take-le, take-set, get_or_default, set_past, take_all, drop_all, append-nil, drop-drop, drop-set-lt, drop-replicate, get_or-append_right, get_or-drop, length-append, length-drop}
+use Rattle.std.specs.Prelude.{◌≡◌, ℕ, zero, suc, ◌+◌, ◌-◌, ◌<◌, ◌≤◌, List, [], ◌∷◌, ◌++◌, length, get_or, take, drop, replicate, Some, None, slice_index_or, slice_set, refl}
+use Rattle.std.proofs.Common.{sym, ◌∙◌, ap, arith}
+use Rattle.std.proofs.lemmas.List.{take_more, take_more_set, length-take-le, take-set, take_all, drop_all, append-nil, drop-drop, drop-set-lt, drop-replicate, get_or-append_right, get_or-drop, length-append, length-drop}
 use Rattle.encoding.specs.Lists.{list, item}
 use Rattle.encoding.specs.declared.bounded.Bounded.{Bounded}
 

@@ -1,6 +1,6 @@
 -- What the scanner answers: a varint, or a whole field, at the front of some bytes.
 use Rattle.std.specs.Prelude.{◌≡◌, ℕ, zero, suc, ◌+◌, ◌-◌, ◌*◌, ◌<◌, ◌≤◌, cond, List, [], ◌∷◌, ◌++◌, length, take, drop, Some, None, Option, ◌==◌, ◌≢◌, nat_lt}
-use Rattle.encoding.specs.Wire.{base128, Field, number, bytes, encode_field, Small}
+use Rattle.encoding.specs.Wire.{Field, number, bytes, encode_field, Small}
 use Rattle.encoding.specs.declared.scan.Piece.{Piece}
 
 -- the varint at the front, its value and how many bytes it takes, if it is in shortest form and has at most k bytes before

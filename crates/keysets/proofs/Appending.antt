@@ -1,5 +1,5 @@
 -- A key at the end of a keyset.
-use Rattle.std.proofs.Common.{◌≡◌, ℕ, ◌<◌, ◌≤◌, Bool, true, false, cond, leb, List, [], ◌∷◌, ◌++◌, map, length, Ok, Err, Result, sym, refl, ap, ◌∙◌, arith, MatchResult}
+use Rattle.std.proofs.Common.{◌≡◌, ℕ, ◌<◌, ◌≤◌, Bool, cond, leb, List, [], ◌∷◌, ◌++◌, map, length, Ok, Err, Result, sym, ap, ◌∙◌, arith, MatchResult}
 use Rattle.std.proofs.lemmas.List.{map_push}
 use Rattle.std.proofs.lemmas.Bool.{cond-true, cond-false, le-leb, lt-leb}
 use Rattle.ciphers.specs.Faults.{fault}
@@ -9,7 +9,7 @@ use Rattle.ciphers.specs.declared.fault.Refusal.TheVariants.{KeysetFull}
 use Rattle.encoding.specs.Meanings.{KeyTemplateMeaning, KeyMeaning, KeysetMeaning}
 use Rattle.encoding.specs.Views.{key_view}
 use Rattle.encoding.specs.declared.records.Key.{Key}
-use Rattle.keysets.specs.Adding.{Added, with_key, added_key, added, made_key, words_made}
+use Rattle.keysets.specs.Adding.{with_key, added_key, added, made_key, words_made}
 use Rattle.keysets.specs.Registries.{Managing}
 
 -- a push where there is room

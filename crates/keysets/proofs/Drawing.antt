@@ -1,6 +1,5 @@
 -- Words drawn one after the other, and keys made of them.
-use Rattle.std.proofs.Common.{◌≡◌, ℕ, ◌<◌, ◌≤◌, false, cond, ltb, List, [], ◌∷◌, ◌++◌, length, get_or, take, drop, Ok, Err, Result, sym, refl, ap, ◌∙◌, subst, arith, MatchResult}
-use Rattle.std.specs.List.{flat_map}
+use Rattle.std.proofs.Common.{◌≡◌, ℕ, ◌<◌, ◌≤◌, ltb, List, [], ◌∷◌, ◌++◌, length, get_or, Ok, Err, Result, sym, ap, ◌∙◌, arith, MatchResult}
 use Rattle.std.proofs.lemmas.Bool.{cond-false, le-ltb}
 use Rattle.ciphers.specs.Bytes.{word_bytes}
 use Rattle.ciphers.specs.Drawn.{first_word, other_words}
@@ -8,7 +7,7 @@ use Rattle.ciphers.specs.declared.fault.Fault.{Fault}
 use Rattle.encoding.specs.Lists.{list}
 use Rattle.encoding.specs.declared.bounded.Bounded.{Bounded}
 use Rattle.keysets.specs.Cmac128.{four_words}
-use Rattle.keysets.specs.Managers.{Making, made, answered}
+use Rattle.keysets.specs.Managers.{made, answered}
 
 -- a source from which a word was drawn
 drawn_is : (ws : List ℕ) (a : ℕ) → ◌≡◌ {A = Result ℕ Fault} (Ok a) (first_word ws) → ws ≡ a ∷ other_words ws

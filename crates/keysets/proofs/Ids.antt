@@ -1,12 +1,12 @@
 -- An id drawn word by word.
-use Rattle.std.proofs.Common.{◌≡◌, ℕ, suc, ◌+◌, ◌<◌, min, true, false, cond, List, [], ◌∷◌, length, drop, Some, None, Ok, Err, Option, Result, sym, refl, ap, ◌∙◌, zero-add, arith}
+use Rattle.std.proofs.Common.{◌≡◌, ℕ, suc, ◌+◌, min, true, false, List, [], ◌∷◌, drop, Some, None, Ok, Err, Option, Result, sym, refl, ap, ◌∙◌, zero-add, arith}
 use Rattle.std.specs.Option.{option_map}
 use Rattle.std.proofs.lemmas.List.{drop-drop}
 use Rattle.std.proofs.lemmas.Bool.{cond-true, cond-false}
 use Rattle.ciphers.specs.Drawn.{first_word, other_words}
 use Rattle.ciphers.specs.declared.fault.Fault.{Fault}
 use Rattle.encoding.specs.Meanings.{KeyMeaning}
-use Rattle.keysets.specs.Adding.{DrawnId, one_more, is_present, drawn_id, words_after_id, id_answer, counted}
+use Rattle.keysets.specs.Adding.{DrawnId, one_more, is_present, drawn_id, counted}
 
 -- the same id, after k more words
 abbrev pub later : ℕ → DrawnId → DrawnId

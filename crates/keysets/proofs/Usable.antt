@@ -1,5 +1,5 @@
 -- A key that was added has a primitive: its manager made it, and is found again by the type that it gave the key.
-use Rattle.std.proofs.Common.{◌≡◌, ℕ, zero, suc, ◌≤◌, Bool, true, false, cond, eqb, leb, List, [], ◌∷◌, ◌++◌, length, pos, is_some, is_ok, Some, None, Ok, Err, Option, Result, sym, refl, ap, ◌∙◌, subst, arith}
+use Rattle.std.proofs.Common.{◌≡◌, ℕ, zero, suc, ◌≤◌, Bool, true, false, cond, eqb, leb, List, [], ◌∷◌, ◌++◌, length, pos, is_some, is_ok, Some, None, Ok, Err, Option, Result, refl, ap, ◌∙◌, subst, arith}
 use Rattle.std.specs.Str.{bytes_eq}
 use Rattle.std.proofs.lemmas.Slice.Eq.{bytes_eq-Decides}
 use Rattle.std.proofs.lemmas.Bool.{ne_eqb, cond-true, cond-false}
@@ -7,12 +7,12 @@ use Rattle.ciphers.specs.declared.fault.Fault.{Fault}
 use Rattle.encoding.specs.Lists.{item}
 use Rattle.encoding.specs.Meanings.{KeyDataMeaning, KeyTemplateMeaning, KeyMeaning, KeysetMeaning}
 use Rattle.keysets.specs.declared.registry.Place.{Place}
-use Rattle.keysets.specs.Adding.{DrawnId, drawn_id, new_key, key_with, key_of, made_key, Added, added_key, added, with_key}
+use Rattle.keysets.specs.Adding.{DrawnId, drawn_id, new_key, key_with, key_of, made_key, Added, added_key, added}
 use Rattle.keysets.specs.Answering.{only_if, at_place}
 use Rattle.keysets.specs.Kinds.{prefix_of, material_of}
 use Rattle.keysets.specs.Managers.{Maker, KeyMaker, Making, made, barred, dry, Lawful, KeepsLaws, key_data_answer, primitive_answer}
-use Rattle.keysets.specs.Registries.{Managing, registered, found, new_key_data_by, primitive_of, primitive_by, words_by}
-use Rattle.keysets.specs.Running.{once, prefix_tested, data_primitive, key_primitive, placed_primitive, primitive_at, NewKeyUsable}
+use Rattle.keysets.specs.Registries.{Managing, registered, found, new_key_data_by, primitive_by}
+use Rattle.keysets.specs.Running.{once, prefix_tested, key_primitive, placed_primitive, NewKeyUsable}
 
 -- who is found by a type URL has it
 module _ {P : Type 0} (url : List ℕ) (m : Managing P) where

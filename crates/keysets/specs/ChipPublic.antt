@@ -1,6 +1,6 @@
 -- The manager of `junction/chip-public`: public halves of 32 bytes, brought in by the format.
 use Rattle.std.proofs.Common.{rules}
-use Rattle.std.specs.Prelude.{ℕ, ◌≤◌, true, cond, length, Ok, Err, codes, ◌==◌}
+use Rattle.std.specs.Prelude.{◌≤◌, true, cond, length, Ok, Err, codes, ◌==◌}
 use Rattle.keysets.specs.declared.registry.chip_public.Chip.{Chip}
 use Rattle.keysets.specs.Managers.{Maker, KeyMaker, UrlFits, made, barred}
 

@@ -1,5 +1,5 @@
 -- What is claimed of the edits, for every keyset, valid or not.
-use Rattle.std.specs.Prelude.{◌≡◌, ℕ, ◌+◌, ◌<◌, ◌≤◌, List, ◌++◌, map, length, take, drop, set, Some, None, Ok, Err, Option, ◌≢◌, slice_set}
+use Rattle.std.specs.Prelude.{◌≡◌, ℕ, ◌+◌, ◌<◌, ◌≤◌, List, ◌++◌, map, length, take, drop, Some, None, Ok, Err, Option, ◌≢◌, slice_set}
 use Rattle.ciphers.specs.declared.fault.Fault.{Fault}
 use Rattle.encoding.specs.Meanings.{KeyMeaning, KeyDataMeaning, KeysetMeaning}
 use Rattle.encoding.specs.declared.numbers.KeyStatusType.TheVariants.{Enabled}

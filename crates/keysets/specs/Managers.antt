@@ -1,5 +1,5 @@
 -- What a key manager means: plain records of functions, which no call alters.
-use Rattle.std.specs.Prelude.{◌≡◌, ℕ, ◌≤◌, Bool, true, List, [], length, drop, ℤ, pos, is_ok, Ok, Err, Result}
+use Rattle.std.specs.Prelude.{◌≡◌, ℕ, ◌≤◌, true, List, [], length, drop, pos, is_ok, Ok, Err, Result}
 use Rattle.ciphers.specs.Faults.{fault, reasoned}
 use Rattle.ciphers.specs.declared.fault.Fault.{Fault}
 use Rattle.ciphers.specs.declared.fault.Layer.TheVariants.{KeyManager, Draws}

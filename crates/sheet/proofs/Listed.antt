@@ -1,11 +1,11 @@
 -- The lines of a keyset, one key longer.
-use Rattle.std.proofs.Common.{◌≡◌, ℕ, zero, suc, ◌+◌, ◌<◌, ◌≤◌, eqb, List, [], ◌∷◌, ◌++◌, length, drop, ℤ, Some, None, Option, sym, refl, ap, ◌∙◌, append_assoc, arith}
+use Rattle.std.proofs.Common.{◌≡◌, ℕ, zero, suc, ◌+◌, ◌≤◌, eqb, List, [], ◌∷◌, ◌++◌, length, drop, ℤ, Some, None, Option, sym, refl, ap, ◌∙◌, append_assoc, arith}
 use Rattle.std.specs.Option.{option_map}
 use Rattle.std.proofs.lemmas.List.{append-nil}
 use Rattle.encoding.specs.Lists.{item}
-use Rattle.encoding.specs.Meanings.{KeyMeaning, KeysetMeaning}
+use Rattle.encoding.specs.Meanings.{KeyMeaning}
 use Rattle.keysets.specs.Kinds.{status_of, prefix_of}
-use Rattle.sheet.specs.Rows.{status_text, prefix_text, mark_text, row, key_row, rows, row_of}
+use Rattle.sheet.specs.Rows.{status_text, prefix_text, mark_text, row, rows, row_of}
 
 -- the row of a key, by what was read of it
 pub row_is : (p : ℕ) (o : Option KeyMeaning) (id : ℕ) (st pr : ℤ) → Some id ≡ option_map (λ (k : KeyMeaning). k.key_id) o → Some st ≡ option_map (λ (k : KeyMeaning). k.status) o

@@ -1,8 +1,8 @@
 -- Hexadecimal text one byte longer, and that it tells bytes apart.
-use Rattle.std.proofs.Common.{◌≡◌, ℕ, suc, ◌+◌, ◌*◌, ◌/◌, ◌%◌, ◌<◌, ltb, List, [], ◌∷◌, ◌++◌, length, get_or, take, sym, refl, ap, ◌∙◌, append_assoc, arith}
-use Rattle.std.proofs.lemmas.List.{append-nil, take_more}
+use Rattle.std.proofs.Common.{◌≡◌, ℕ, suc, ◌+◌, ◌/◌, ◌%◌, ◌<◌, List, [], ◌∷◌, ◌++◌, length, get_or, take, refl, ap, ◌∙◌, arith}
+use Rattle.std.proofs.lemmas.List.{take_more}
 use Rattle.std.proofs.lemmas.Bool.Decides.{nat_tests}
-use Rattle.sheet.specs.Hex.{digit_code, byte_codes, hex_codes, Bytes, TellsBytes}
+use Rattle.sheet.specs.Hex.{digit_code, byte_codes, hex_codes, TellsBytes}
 
 hex_codes-append : (xs ys : List ℕ) → hex_codes (xs ++ ys) ≡ hex_codes xs ++ hex_codes ys
 hex_codes-append [] ys = refl

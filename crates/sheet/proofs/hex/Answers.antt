@@ -1,4 +1,3 @@
-use Rattle.std.proofs.Common.{◌≡◌, arith}
 use Rattle.std.proofs.lemmas.List.{take_all}
 use Rattle.sheet.proofs.Shown.{hex_codes_more}
 use Rattle.sheet.proofs.hex.Goals as goal

@@ -1,4 +1,4 @@
-use Rattle.std.proofs.Common.{◌≡◌, ◌/◌, ◌%◌, [], ◌∷◌, string_bytes, append_assoc}
+use Rattle.std.proofs.Common.{◌/◌, ◌%◌, [], ◌∷◌, string_bytes, append_assoc}
 use Rattle.sheet.specs.Hex.{digit_code}
 use Rattle.sheet.proofs.push_byte.Goals as goal
 

@@ -1,4 +1,3 @@
-use Rattle.std.proofs.Common.{◌≡◌}
 use Rattle.ciphers.specs.Rfc4493.{dbl}
 use Rattle.ciphers.proofs.blocks.double.Goals as goal
 

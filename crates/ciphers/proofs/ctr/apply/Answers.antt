@@ -1,4 +1,4 @@
-use Rattle.std.proofs.Common.{◌≡◌, length, sym}
+use Rattle.std.proofs.Common.{length, sym}
 use Rattle.std.proofs.lemmas.Bool.{le-ltb}
 use Rattle.ciphers.specs.Fips197.{cipher}
 use Rattle.ciphers.specs.Keys.{aes_key}

@@ -1,4 +1,4 @@
-use Rattle.std.proofs.Common.{◌≡◌, ℕ, ◌+◌, ◌-◌, ◌<◌, ◌≤◌, List, ◌++◌, length, get_or, take, drop, set, sym, refl, ap, ◌∙◌, arith, rules}
+use Rattle.std.proofs.Common.{◌≡◌, ℕ, ◌-◌, List, ◌++◌, length, get_or, take, drop, set, sym, ap, ◌∙◌, arith, rules}
 use lib.Bits.{bit_xor}
 use Rattle.std.proofs.lemmas.List.{take_rest, take-append-drop}
 use Rattle.ciphers.specs.Bytes.{xors}

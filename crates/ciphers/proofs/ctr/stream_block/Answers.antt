@@ -1,4 +1,3 @@
-use Rattle.std.proofs.Common.{◌≡◌}
 use Rattle.ciphers.specs.Rfc5297.{counter}
 use Rattle.ciphers.proofs.ctr.stream_block.Goals as goal
 

@@ -1,4 +1,3 @@
-use Rattle.std.proofs.Common.{◌≡◌}
 use Rattle.ciphers.specs.Drawn.{cipher_word}
 use Rattle.ciphers.proofs.draws.word.Goals as goal
 

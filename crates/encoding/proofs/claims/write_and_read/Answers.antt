@@ -1,6 +1,6 @@
-use Rattle.std.proofs.Common.{◌≡◌, ℕ, ◌≤◌, List, length, sym, subst, arith, rules}
+use Rattle.std.proofs.Common.{ℕ, subst, rules}
 use Rattle.encoding.specs.Wire.{encode}
-use Rattle.encoding.specs.Messages.{Wrote, Unwritten}
+use Rattle.encoding.specs.Messages.{Wrote}
 use Rattle.encoding.proofs.Backs.{wrote_fits, wrote-front, back, if_read}
 use Rattle.encoding.proofs.claims.write_and_read.Goals as goal
 

@@ -1,8 +1,6 @@
-use Rattle.std.proofs.Common.{◌≡◌, ℕ, ◌<◌, ◌≤◌, Bool, List, sym, refl, ◌∙◌, subst, arith, rules}
+use Rattle.std.proofs.Common.{sym, refl, ◌∙◌, subst, arith, rules}
 use Rattle.std.proofs.lemmas.Bool.{cond-true, cond-false}
-use Rattle.encoding.specs.Wire.{Field, number_of}
 use Rattle.encoding.specs.Messages.{Ordered, Went}
-use Rattle.encoding.specs.Scanning.{field_at}
 use Rattle.encoding.specs.Orders.{lower}
 use Rattle.encoding.proofs.Places.{early, refused, taken, piece_number}
 use Rattle.encoding.proofs.message.step.Given as given

@@ -1,4 +1,4 @@
-use Rattle.std.proofs.Common.{◌^◌, ◌<◌, length, take}
+use Rattle.std.proofs.Common.{take}
 use Rattle.encoding.specs.Wire.{encode}
 use Rattle.encoding.specs.Members.{each}
 use Rattle.encoding.specs.Laying.{Laid}

@@ -1,8 +1,8 @@
-use Rattle.std.proofs.Common.{◌≡◌, ℕ, ◌+◌, ◌-◌, ◌*◌, ◌^◌, ◌<◌, ◌≤◌, List, ◌∷◌, length, get_or, take, drop, sym, refl, ap, ◌∙◌, subst, arith, rules}
+use Rattle.std.proofs.Common.{◌≡◌, ℕ, ◌-◌, ◌<◌, ◌≤◌, List, length, get_or, take, drop, sym, arith, rules}
 use Rattle.std.proofs.lemmas.Slice.{first_rest}
 use Rattle.std.proofs.lemmas.Bool.{eqb-true, eqb-false, eq-eqb, ne_eqb}
 use Rattle.encoding.specs.Scanning.{more_bytes, unvarint}
-use Rattle.encoding.specs.Varints.{Reads, un_none, un_more, un_bad_last, un_last, un_long, sound, cap_room, none-some}
+use Rattle.encoding.specs.Varints.{Reads, un_none, un_more, un_bad_last, un_last, un_long, sound, cap_room}
 use Rattle.encoding.proofs.varint.+take_varint.Goals as goal
 
 pub returns-then-is_empty : goal.returns-then-is_empty

@@ -1,4 +1,4 @@
-use Rattle.std.proofs.Common.{◌≡◌, sym, ◌∙◌}
+use Rattle.std.proofs.Common.{sym, ◌∙◌}
 use Rattle.encoding.specs.Layings.{laid-set, laid-past}
 use Rattle.encoding.proofs.varint.put_byte.Goals as goal
 use Rattle.encoding.proofs.varint.put_byte.Goals.{then-at-out, else-at-out}

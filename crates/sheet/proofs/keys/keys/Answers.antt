@@ -1,6 +1,6 @@
-use Rattle.std.proofs.Common.{◌≡◌, ℕ, ◌+◌, List, ◌++◌, drop, string_bytes, sym, ap, ◌∙◌, subst, arith}
+use Rattle.std.proofs.Common.{◌≡◌, ℕ, ◌+◌, List, ◌++◌, drop, string_bytes, ap, ◌∙◌, arith}
 use Rattle.keysets.specs.Reading.{managed}
-use Rattle.sheet.specs.Rows.{rows, sheet_of}
+use Rattle.sheet.specs.Rows.{rows}
 use Rattle.sheet.proofs.Listed.{pushed, whole}
 use Rattle.sheet.proofs.keys.keys.Goals as goal
 

@@ -1,4 +1,4 @@
-use Rattle.std.proofs.Common.{◌≡◌, ℕ, eqb, List, IfOk, string_bytes, sym, ap, ◌∙◌, subst, w32, SFits, rules}
+use Rattle.std.proofs.Common.{◌≡◌, ℕ, eqb, List, IfOk, string_bytes, ap, ◌∙◌, subst, w32, SFits, rules}
 use Rattle.std.proofs.lemmas.Int.{to_z-of_z}
 use Rattle.encoding.specs.Lists.{item}
 use Rattle.keysets.specs.Kinds.{status_of, prefix_of}

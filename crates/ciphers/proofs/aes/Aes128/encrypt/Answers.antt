@@ -1,4 +1,4 @@
-use Rattle.std.proofs.Common.{◌≡◌, map}
+use Rattle.std.proofs.Common.{map}
 use Rattle.ciphers.specs.Bytes.{word_bytes}
 use Rattle.ciphers.specs.Fips197.{state_of}
 use Rattle.ciphers.specs.Keys.{aes_key}

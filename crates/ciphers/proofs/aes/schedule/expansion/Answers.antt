@@ -1,4 +1,4 @@
-use Rattle.std.proofs.Common.{◌≡◌, ◌<◌, ◌≤◌, length, refl, ◌∙◌, arith, length-set}
+use Rattle.std.proofs.Common.{◌<◌, ◌≤◌, length, refl, ◌∙◌, arith, length-set}
 use Rattle.ciphers.specs.Fips197.{state_of}
 use Rattle.ciphers.proofs.Expanding.{grown, key-kept, words-first, expanded_all}
 use Rattle.ciphers.proofs.aes.schedule.expansion.Goals as goal

@@ -1,6 +1,6 @@
 use Rattle.std.proofs.Common.{◌≡◌, ℕ, List, [], ◌∷◌, get_or, ap, ◌∙◌, rules}
 use Rattle.ciphers.specs.Bytes.{word_bytes}
-use Rattle.ciphers.specs.Fips197.{sub_word, rot_word, x_power}
+use Rattle.ciphers.specs.Fips197.{x_power}
 use Rattle.ciphers.specs.Gf256.{s_box}
 use Rattle.ciphers.proofs.Columns.{xor_of}
 use Rattle.ciphers.proofs.aes.schedule.turned.Goals as goal

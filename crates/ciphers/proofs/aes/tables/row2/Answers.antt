@@ -1,4 +1,4 @@
-use Rattle.std.proofs.Common.{◌<◌, [], ◌∷◌, refl, rules}
+use Rattle.std.proofs.Common.{[], ◌∷◌, refl, rules}
 use Rattle.ciphers.specs.Gf256.{mul, s_box}
 use Rattle.ciphers.proofs.Tables.{tabled}
 use Rattle.ciphers.proofs.aes.tables.row2.Goals as goal

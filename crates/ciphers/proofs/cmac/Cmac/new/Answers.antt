@@ -1,4 +1,4 @@
-use Rattle.std.proofs.Common.{◌≡◌, ap, ◌∙◌, rules}
+use Rattle.std.proofs.Common.{ap, ◌∙◌, rules}
 use Rattle.ciphers.specs.Rfc4493.{subkey1, dbl}
 use Rattle.ciphers.proofs.cmac.Cmac.new.Goals as goal
 

@@ -1,6 +1,6 @@
-use Rattle.std.proofs.Common.{◌≡◌, ◌+◌, ◌≤◌, length, sym, ap, ◌∙◌, arith, length-drop}
+use Rattle.std.proofs.Common.{◌+◌, ◌≤◌, length, ap, arith, length-drop}
 use Rattle.std.proofs.lemmas.List.{take_rest, drop-drop, drop_all}
-use Rattle.ciphers.specs.Tagging.{progress, absorbed}
+use Rattle.ciphers.specs.Tagging.{progress}
 use Rattle.ciphers.proofs.InPieces.{absorbed-none}
 use Rattle.ciphers.proofs.cmac.Running.absorb.Goals as goal
 

@@ -1,4 +1,4 @@
-use Rattle.std.proofs.Common.{◌≡◌, ℕ, List, ap, ◌∙◌}
+use Rattle.std.proofs.Common.{◌≡◌, ap, ◌∙◌}
 use Rattle.ciphers.specs.Rfc4493.{finish}
 use Rattle.ciphers.specs.Tagging.{progress, tag_of}
 use Rattle.ciphers.proofs.InPieces.{tag_is}

@@ -1,4 +1,4 @@
-use Rattle.std.proofs.Common.{◌≡◌, ℕ, ◌+◌, ◌≤◌, false, length, refl, arith, rules}
+use Rattle.std.proofs.Common.{◌≡◌, ◌+◌, ◌≤◌, false, length, arith, rules}
 use Rattle.ciphers.specs.Aeads.{out_of_bounds}
 use Rattle.ciphers.specs.Covers.{covered, uncovered}
 use Rattle.ciphers.proofs.Seals.{sealed-encrypted, sealed-answer, sealed-output}

@@ -1,4 +1,4 @@
-use Rattle.std.proofs.Common.{◌≡◌, ℕ, List, Ok, sym, ap, ◌∙◌}
+use Rattle.std.proofs.Common.{ℕ, Ok, sym, ap, ◌∙◌}
 use Rattle.ciphers.specs.Drawn.{first_word, other_words}
 use Rattle.ciphers.specs.Fips197.{cipher}
 use Rattle.ciphers.specs.Keys.{aes_key}

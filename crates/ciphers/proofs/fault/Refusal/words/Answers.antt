@@ -1,4 +1,3 @@
-use Rattle.std.proofs.Common.{rules}
 use Rattle.ciphers.proofs.fault.Refusal.words.Goals as goal
 
 pub returns-in-ZeroKeyId : goal.returns-in-ZeroKeyId

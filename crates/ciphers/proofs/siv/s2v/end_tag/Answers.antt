@@ -1,4 +1,4 @@
-use Rattle.std.proofs.Common.{◌≡◌, ℕ, ◌+◌, ◌-◌, length, take, ap, ◌∙◌, arith}
+use Rattle.std.proofs.Common.{◌≡◌, ℕ, ◌-◌, length, take, ap, ◌∙◌, arith}
 use Rattle.ciphers.specs.Tagging.{progress, absorbed, tag_of}
 use Rattle.ciphers.proofs.Ends.{end_absorbed}
 use Rattle.ciphers.proofs.siv.s2v.end_tag.Goals as goal

@@ -1,10 +1,10 @@
-use Rattle.std.proofs.Common.{◌≡◌, ℕ, List, length, sym, refl, ap, ◌∙◌, arith}
+use Rattle.std.proofs.Common.{ℕ, List, length, sym, ap, ◌∙◌}
 use Rattle.std.proofs.lemmas.List.{take_at}
 use Rattle.ciphers.specs.Bytes.{xors}
 use Rattle.ciphers.specs.Fips197.{cipher}
 use Rattle.ciphers.specs.Rfc4493.{cmac, dbl, padded}
 use Rattle.ciphers.specs.Rfc5297.{xor_end}
-use Rattle.ciphers.specs.Tagging.{Progress, mac_key, progress, absorbed, tag_of}
+use Rattle.ciphers.specs.Tagging.{Progress, mac_key, absorbed, tag_of}
 use Rattle.ciphers.proofs.Ends.{lastly-short, lastly_long}
 use Rattle.ciphers.proofs.InPieces.{tag_is}
 use Rattle.ciphers.proofs.siv.s2v.plain_tag.Goals as goal

@@ -1,4 +1,4 @@
-use Rattle.std.proofs.Common.{◌≡◌, replicate, sym, refl, ap, ◌∙◌, arith}
+use Rattle.std.proofs.Common.{replicate, refl, ◌∙◌, arith}
 use Rattle.std.proofs.lemmas.List.{length-set, length-replicate}
 use Rattle.encoding.specs.ListsLemmas.{copied_more, kept_more, copied_all}
 use Rattle.encoding.proofs.bounded.Bounded.from_slice.Goals as goal

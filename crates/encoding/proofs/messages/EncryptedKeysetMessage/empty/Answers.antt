@@ -1,7 +1,7 @@
 use Rattle.std.proofs.Common.{refl}
-use Rattle.encoding.specs.Meanings.{encrypted_keyset_fields, keyset_info_fields}
-use Rattle.encoding.specs.Views.{fields_of_encrypted_keyset, keyset_info_view}
-use Rattle.encoding.specs.Sorts.{text_empty, each_empty}
+use Rattle.encoding.specs.Meanings.{encrypted_keyset_fields}
+use Rattle.encoding.specs.Views.{fields_of_encrypted_keyset}
+use Rattle.encoding.specs.Sorts.{text_empty}
 use Rattle.encoding.proofs.messages.EncryptedKeysetMessage.empty.Goals as goal
 
 pub returns : goal.returns

@@ -1,11 +1,10 @@
-use Rattle.std.proofs.Common.{refl, ap, arith}
+use Rattle.std.proofs.Common.{ap, arith}
 use Rattle.encoding.specs.Wire.{encode}
 use Rattle.encoding.specs.Meanings.{encrypted_keyset_fields, keyset_info_fields}
 use Rattle.encoding.specs.Views.{fields_of_encrypted_keyset, fields_of_keyset_info, keyset_info_view}
-use Rattle.encoding.specs.Lists.{list}
 use Rattle.encoding.specs.Layings.{laid_as}
-use Rattle.encoding.specs.Sorts.{present_view, each_view}
-use Rattle.encoding.specs.Parts.{both, alone, text_is, signed_is}
+use Rattle.encoding.specs.Sorts.{present_view}
+use Rattle.encoding.specs.Parts.{both, alone, text_is}
 use Rattle.encoding.specs.EncryptedKeysets.{piece2, piece3, tail2}
 use Rattle.encoding.proofs.messages.EncryptedKeysetMessage.put.Goals as goal
 

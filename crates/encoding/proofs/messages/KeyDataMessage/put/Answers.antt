@@ -1,10 +1,6 @@
-use Rattle.std.proofs.Common.{refl, ap, arith}
-use Rattle.encoding.specs.Wire.{encode}
+use Rattle.std.proofs.Common.{arith}
 use Rattle.encoding.specs.Meanings.{key_data_fields}
 use Rattle.encoding.specs.Views.{fields_of_key_data}
-use Rattle.encoding.specs.Lists.{list}
-use Rattle.encoding.specs.Layings.{laid_as}
-use Rattle.encoding.specs.Sorts.{present_view, each_view}
 use Rattle.encoding.specs.Parts.{both, alone, text_is, signed_is}
 use Rattle.encoding.specs.KeyDatas.{piece1, piece2, piece3, tail1, tail2}
 use Rattle.encoding.proofs.messages.KeyDataMessage.put.Goals as goal

@@ -1,7 +1,7 @@
 use Rattle.std.proofs.Common.{refl}
 use Rattle.encoding.specs.Meanings.{key_info_fields}
 use Rattle.encoding.specs.Views.{fields_of_key_info}
-use Rattle.encoding.specs.Sorts.{text_empty, each_empty}
+use Rattle.encoding.specs.Sorts.{text_empty}
 use Rattle.encoding.proofs.messages.KeyInfoMessage.empty.Goals as goal
 
 pub returns : goal.returns

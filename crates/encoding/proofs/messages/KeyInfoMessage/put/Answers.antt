@@ -1,10 +1,6 @@
-use Rattle.std.proofs.Common.{refl, ap, arith}
-use Rattle.encoding.specs.Wire.{encode}
+use Rattle.std.proofs.Common.{arith}
 use Rattle.encoding.specs.Meanings.{key_info_fields}
 use Rattle.encoding.specs.Views.{fields_of_key_info}
-use Rattle.encoding.specs.Lists.{list}
-use Rattle.encoding.specs.Layings.{laid_as}
-use Rattle.encoding.specs.Sorts.{present_view, each_view}
 use Rattle.encoding.specs.Parts.{both, alone, text_is, signed_is}
 use Rattle.encoding.specs.KeyInfos.{piece1, piece2, piece3, piece4, tail1, tail2, tail3}
 use Rattle.encoding.proofs.messages.KeyInfoMessage.put.Goals as goal

@@ -1,7 +1,6 @@
 use Rattle.std.proofs.Common.{refl}
-use Rattle.encoding.specs.Meanings.{key_fields, key_data_fields}
-use Rattle.encoding.specs.Views.{fields_of_key, key_data_view}
-use Rattle.encoding.specs.Sorts.{text_empty, each_empty}
+use Rattle.encoding.specs.Meanings.{key_fields}
+use Rattle.encoding.specs.Views.{fields_of_key}
 use Rattle.encoding.proofs.messages.KeyMessage.empty.Goals as goal
 
 pub returns : goal.returns

@@ -1,11 +1,10 @@
-use Rattle.std.proofs.Common.{refl, ap, arith}
+use Rattle.std.proofs.Common.{ap, arith}
 use Rattle.encoding.specs.Wire.{encode}
 use Rattle.encoding.specs.Meanings.{key_fields, key_data_fields}
 use Rattle.encoding.specs.Views.{fields_of_key, fields_of_key_data, key_data_view}
-use Rattle.encoding.specs.Lists.{list}
 use Rattle.encoding.specs.Layings.{laid_as}
-use Rattle.encoding.specs.Sorts.{present_view, each_view}
-use Rattle.encoding.specs.Parts.{both, alone, text_is, signed_is}
+use Rattle.encoding.specs.Sorts.{present_view}
+use Rattle.encoding.specs.Parts.{both, alone, signed_is}
 use Rattle.encoding.specs.Keys.{piece1, piece2, piece3, piece4, tail1, tail2, tail3}
 use Rattle.encoding.proofs.messages.KeyMessage.put.Goals as goal
 

@@ -1,7 +1,6 @@
-use Rattle.std.proofs.Common.{refl}
 use Rattle.encoding.specs.Meanings.{keyset_info_fields, key_info_fields}
 use Rattle.encoding.specs.Views.{fields_of_keyset_info, key_info_view}
-use Rattle.encoding.specs.Sorts.{text_empty, each_empty}
+use Rattle.encoding.specs.Sorts.{each_empty}
 use Rattle.encoding.proofs.messages.KeysetInfoMessage.empty.Goals as goal
 
 pub returns : goal.returns

@@ -1,11 +1,11 @@
-use Rattle.std.proofs.Common.{refl, ap, arith}
+use Rattle.std.proofs.Common.{ap, arith}
 use Rattle.encoding.specs.Wire.{encode}
 use Rattle.encoding.specs.Meanings.{keyset_info_fields, key_info_fields}
 use Rattle.encoding.specs.Views.{fields_of_keyset_info, fields_of_key_info, key_info_view}
 use Rattle.encoding.specs.Lists.{list}
 use Rattle.encoding.specs.Layings.{laid_as}
-use Rattle.encoding.specs.Sorts.{present_view, each_view}
-use Rattle.encoding.specs.Parts.{both, alone, text_is, signed_is}
+use Rattle.encoding.specs.Sorts.{each_view}
+use Rattle.encoding.specs.Parts.{both, alone}
 use Rattle.encoding.specs.KeysetInfos.{piece1, piece2, tail1}
 use Rattle.encoding.proofs.messages.KeysetInfoMessage.put.Goals as goal
 

@@ -1,7 +1,6 @@
-use Rattle.std.proofs.Common.{refl}
 use Rattle.encoding.specs.Meanings.{keyset_fields, key_fields}
 use Rattle.encoding.specs.Views.{fields_of_keyset, key_view}
-use Rattle.encoding.specs.Sorts.{text_empty, each_empty}
+use Rattle.encoding.specs.Sorts.{each_empty}
 use Rattle.encoding.proofs.messages.KeysetMessage.empty.Goals as goal
 
 pub returns : goal.returns

@@ -1,4 +1,4 @@
-use Rattle.std.proofs.Common.{◌≡◌, ℕ, ◌<◌, ◌≤◌, List, length, Ok, Err, sym, ap, ◌∙◌, subst, arith}
+use Rattle.std.proofs.Common.{length, Ok, Err, sym, ap, ◌∙◌, subst, arith}
 use Rattle.std.proofs.lemmas.List.{length-map}
 use Rattle.std.proofs.lemmas.Result.{err_from_is_err_and}
 use Rattle.ciphers.specs.declared.fault.Fault.{Fault}
@@ -7,7 +7,6 @@ use Rattle.encoding.specs.Meanings.{KeysetMeaning}
 use Rattle.encoding.specs.Views.{key_view, key_template_view, keyset_view}
 use Rattle.keysets.specs.Adding.{Added, added}
 use Rattle.keysets.specs.Claims.{DistinctIds}
-use Rattle.keysets.specs.Managers.{KeepsLaws}
 use Rattle.keysets.specs.Registries.{registered}
 use Rattle.keysets.specs.Running.{NewKeyUsable}
 use Rattle.keysets.proofs.Usable.{registered-lawful, added-usable}

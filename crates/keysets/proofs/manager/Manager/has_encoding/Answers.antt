@@ -1,8 +1,7 @@
-use Rattle.std.proofs.Common.{◌≡◌, ℕ, ◌<◌, ◌≤◌, List, length, sym, ap, ◌∙◌, arith}
+use Rattle.std.proofs.Common.{ℕ, List, sym, ap, ◌∙◌, arith}
 use Rattle.std.proofs.lemmas.List.{length-take-le}
 use Rattle.std.specs.Str.{bytes_eq}
 use Rattle.encoding.specs.Keysets.{sound}
-use Rattle.encoding.specs.Wire.{encode}
 use Rattle.encoding.specs.Views.{fields_of_keyset}
 use Rattle.keysets.proofs.Writing.{wrote-within, wrote-front}
 use Rattle.keysets.proofs.manager.Manager.has_encoding.Goals as goal

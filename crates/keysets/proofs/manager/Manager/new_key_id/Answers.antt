@@ -1,4 +1,4 @@
-use Rattle.std.proofs.Common.{◌≡◌, ℕ, ◌+◌, List, ◌∷◌, Ok, Option, sym, ap, ◌∙◌}
+use Rattle.std.proofs.Common.{ℕ, ◌+◌, List, ◌∷◌, Ok, Option, sym, ap, ◌∙◌}
 use Rattle.encoding.specs.Views.{keyset_view}
 use Rattle.keysets.specs.Adding.{DrawnId, id_answer, words_after_id}
 use Rattle.keysets.proofs.Ids.{drew, left-more, passed, taken, counted_more}

@@ -1,11 +1,10 @@
-use Rattle.std.proofs.Common.{◌≡◌, ℕ, ◌-◌, ◌≤◌, Bool, cond, List, ◌++◌, length, drop, Some, None, Err, sym, ap, ◌∙◌}
+use Rattle.std.proofs.Common.{ℕ, ◌++◌, length, drop, Err, sym, ap, ◌∙◌}
 use Rattle.std.proofs.lemmas.Result.{err_from_is_err_and}
 use Rattle.ciphers.specs.declared.fault.Fault.{Fault}
 use Rattle.ciphers.specs.Fips197.{cipher}
 use Rattle.ciphers.specs.Keys.{aes_key}
 use Rattle.ciphers.specs.Rfc5297.{siv_opened, plain_of}
 use Rattle.ciphers.specs.Sivs.{siv_key}
-use Rattle.ciphers.specs.Tagging.{mac_key}
 use Rattle.ciphers.proofs.Refusing.{opening_refused, opening_passed}
 use Rattle.ciphers.proofs.Reopening.{siv_opened_lem, opened_by, opened-genuine, plain_of_length}
 use Rattle.ciphers.proofs.Seals.{opened-answer, opened-output}
