@@ -177,7 +177,7 @@ fn siv_lengths(rt: HostRuntime) -> Result<(), Fail> {
 fn cover_length(rt: HostRuntime) -> Result<(), Fail> {
     let heap = rt.alloc();
     let sealed = seal(heap, &PlainCover, 2, 256, 6)?;
-    assert_eq!(rt; sealed.out.as_slice(), &[0, 0, 1, 0, 0, 1]);
+    assert_eq!(rt; sealed.out.as_slice(), [0u8, 0, 1, 0, 0, 1].as_slice());
     check_opened(
         &rt,
         open(heap, &PlainCover, &[0, 0, 0, 3, 0, 1, 2], 3, 3)?,

@@ -13,7 +13,9 @@ fn wraps(rt: HostRuntime) {
     assert!(rt; out.starts_with(&0x8af2860142f786f409307c1a3f7eaaacu128.to_be_bytes()));
     assert_eq!(rt;
         &out[16..32],
-        &0x7df76b0c1ab899b33e42f047b91b546fu128.to_be_bytes()
+        0x7df76b0c1ab899b33e42f047b91b546fu128
+            .to_be_bytes()
+            .as_slice()
     );
     assert_eq!(rt; out[32], 0, "past the text");
     let mut short = [0u8; 31];

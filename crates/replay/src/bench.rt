@@ -165,7 +165,7 @@ impl<'a, M: Kind> Bench<'a, M> {
     fn primitive(&self, heap: Global, asked: Asked) -> anyhow::Result<Answer> {
         let value = hex::read(heap, asked.value)?;
         match self.registry.primitive(asked.type_url, &value) {
-            Ok(primitive) => Ok(Answer::Primitive(M::row(heap, &primitive)?)),
+            Ok(primitive) => Ok(Answer::Primitive(M::row(heap, primitive)?)),
             Err(fault) => Ok(Answer::Refused(fault)),
         }
     }

@@ -8,7 +8,7 @@ pub trait Kind: KeyManager + Copy {
     fn manager() -> Self;
 
     // A primitive as the list writes it.
-    fn row(heap: Global, primitive: &Self::Primitive) -> Result<Vec<u8>, AllocError>;
+    fn row(heap: Global, primitive: Self::Primitive) -> Result<Vec<u8>, AllocError>;
 }
 
 impl Kind for Cmac128 {
@@ -16,7 +16,7 @@ impl Kind for Cmac128 {
         Cmac128
     }
 
-    fn row(heap: Global, primitive: &MacKey) -> Result<Vec<u8>, AllocError> {
+    fn row(heap: Global, primitive: MacKey) -> Result<Vec<u8>, AllocError> {
         primitive.bytes.to_vec(heap)
     }
 }
@@ -26,7 +26,7 @@ impl Kind for ChipPublic {
         ChipPublic
     }
 
-    fn row(heap: Global, primitive: &Chip) -> Result<Vec<u8>, AllocError> {
+    fn row(heap: Global, primitive: Chip) -> Result<Vec<u8>, AllocError> {
         let mut row = Vec::new(heap);
         row.push(u8::from(primitive.public))?;
         row.extend_from_slice(&primitive.half)?;

@@ -77,11 +77,8 @@ fn count(
 }
 
 // An error, with the line where it arose.
-fn in_line(heap: Global, line: usize, error: anyhow::Error) -> anyhow::Error {
-    match format!(in heap; "line {line}: {error}") {
-        Ok(text) => text.into(),
-        Err(no_memory) => no_memory.into(),
-    }
+fn in_line(line: usize, error: anyhow::Error) -> anyhow::Error {
+    anyhow!("line {line}: {error}")
 }
 
 fn call<M: Kind>(
@@ -93,7 +90,7 @@ fn call<M: Kind>(
 ) -> anyhow::Result<bool> {
     match carry_out(heap, bench, pair) {
         Ok(outcome) => Ok(count(heap, tally, case, pair, &outcome)?),
-        Err(error) => Err(in_line(heap, pair.line, error)),
+        Err(error) => Err(in_line(pair.line, error)),
     }
 }
 
@@ -144,7 +141,7 @@ fn case(heap: Global, tally: &mut Tally, pairs: &[Pair]) -> anyhow::Result<()> {
     let first = pairs[0];
     let name = match case_name(first) {
         Ok(name) => name,
-        Err(error) => return Err(in_line(heap, first.line, error)),
+        Err(error) => return Err(in_line(first.line, error)),
     };
     tally.cases = tally.cases.saturating_add(1);
     if registers_chips(pairs) {

@@ -1,4 +1,4 @@
-use Rattle.std.proofs.Common.{ℕ, ◌-◌, refl, arith}
+use Rattle.std.proofs.Common.{◌-◌, refl, arith}
 use Rattle.ciphers.specs.Gf256.{mul, inverse}
 use Rattle.known.proofs.Bytewise.{agree}
 use Rattle.known.proofs.inverse_inverts.Goals as goal
