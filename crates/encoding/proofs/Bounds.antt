@@ -1,7 +1,7 @@
 -- Each record means something within the limits, and each such meaning is some record's.
 use Rattle.std.proofs.Common.{◌≡◌, ℕ, ◌-◌, ◌≤◌, List, [], ◌∷◌, ◌++◌, map, length, replicate, pos, IfSome, Some, None, Option, refl, ap, ◌∙◌, arith}
 use Rattle.std.specs.Option.{option_map}
-use Rattle.std.specs.List.{AllByRecursion as All}
+use Rattle.std.specs.List.{AllByRecursion}
 use Rattle.std.proofs.lemmas.List.{take_at, drop_at, length-append, length-replicate, length-map}
 use Rattle.encoding.specs.Lists.{list, visible}
 use Rattle.encoding.specs.Limits.{UrlWithin, KeyDataWithin, KeyTemplateWithin, KeyWithin, KeysetWithin, KeyInfoWithin, KeysetInfoWithin, EncryptedKeysetWithin, Exactly}
@@ -48,11 +48,11 @@ option_made : {R X : Type 0} (view : R → X) (W : X → Type 0) → ((m : X) �
 option_made view W h None w = (None, refl)
 option_made view W h (Some m) w = let r = h m w in (Some r.0, ap Some r.1)
 
-all_held : {R X : Type 0} (view : R → X) (W : X → Type 0) → ((r : R) → W (view r)) → (rs : List R) → All W (map view rs)
+all_held : {R X : Type 0} (view : R → X) (W : X → Type 0) → ((r : R) → W (view r)) → (rs : List R) → AllByRecursion W (map view rs)
 all_held view W h [] = tt
 all_held view W h (r ∷ rs) = (h r, all_held view W h rs)
 
-all_made : {R X : Type 0} (view : R → X) (W : X → Type 0) → ((m : X) → W m → (r : R) × (view r ≡ m)) → (ms : List X) → All W ms → (rs : List R) × (map view rs ≡ ms)
+all_made : {R X : Type 0} (view : R → X) (W : X → Type 0) → ((m : X) → W m → (r : R) × (view r ≡ m)) → (ms : List X) → AllByRecursion W ms → (rs : List R) × (map view rs ≡ ms)
 all_made view W h [] w = ([], refl)
 all_made view W h (m ∷ ms) w =
     let r = h m w.0 in
@@ -64,7 +64,7 @@ all_made view W h (m ∷ ms) w =
 list_held : {R X : Type 0} {n : ℕ} (view : R → X) (b : Bounded R n) → length (map view (list b)) ≤ n
 list_held view b = omega (arith, length-map (list b) view, short b)
 
-list-made : {R X : Type 0} (view : R → X) (W : X → Type 0) → ((m : X) → W m → (r : R) × (view r ≡ m)) → R → (n : ℕ) (ms : List X) → length ms ≤ n → All W ms → (b : Bounded R n) × (map view (list b) ≡ ms)
+list-made : {R X : Type 0} (view : R → X) (W : X → Type 0) → ((m : X) → W m → (r : R) × (view r ≡ m)) → R → (n : ℕ) (ms : List X) → length ms ≤ n → AllByRecursion W ms → (b : Bounded R n) × (map view (list b) ≡ ms)
 list-made view W h d n ms l w =
     let t = all_made view W h ms w in
     let few : length t.0 ≤ n = omega (arith, length-map t.0 view, ap length t.1) in

@@ -1,6 +1,6 @@
 -- Reading a record field by field, and the place of a refusal.
 use Rattle.std.proofs.Common.{◌≡◌, ℕ, ◌+◌, ◌-◌, ◌<◌, ◌≤◌, Bool, true, false, cond, List, [], ◌∷◌, ◌++◌, length, take, drop, sym, refl, ap, ◌∙◌, subst, inl, inr, arith}
-use Rattle.std.specs.List.{AllByRecursion as All}
+use Rattle.std.specs.List.{AllByRecursion}
 use Rattle.std.proofs.lemmas.List.{append_assoc, take-append-drop, length-take-le, length-drop, take_at, take_all}
 use Rattle.std.proofs.lemmas.Bool.{cases_lt}
 use Rattle.std.proofs.lemmas.Bool.Decides.{when_true, when_false}
@@ -15,7 +15,7 @@ use Rattle.encoding.specs.declared.scan.Piece.{Piece}
 use Rattle.encoding.specs.Fields.{field_unique, fields_split, take_split, encode_push}
 use Rattle.encoding.specs.Orders.{last_before, up_to_last}
 
-pub place : {R : Type 0} (fields : R → List Field) → ((r : R) → All Small (fields r))
+pub place : {R : Type 0} (fields : R → List Field) → ((r : R) → AllByRecursion Small (fields r))
     → (bs : List ℕ) (at : ℕ) (r : R) → at < length bs → encode (fields r) ≡ take at bs → Stuck fields r (drop at bs) → Place fields bs at
 place {R} fields small bs at r lt e stuck = record { early = lt; whole = (r, e); longest = longest }
   where

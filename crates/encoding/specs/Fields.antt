@@ -1,7 +1,7 @@
 -- Fields are told apart by their bytes: the encodings of fields are a prefix code.
 use Rattle.std.specs.Prelude.{◌≡◌, ℕ, ◌+◌, ◌-◌, ◌*◌, ◌<◌, ◌≤◌, List, [], ◌∷◌, ◌++◌, length, take, drop, refl}
 use Rattle.std.proofs.Common.{sym, ◌∙◌, ap, subst, arith}
-use Rattle.std.specs.List.{AllByRecursion as All}
+use Rattle.std.specs.List.{AllByRecursion}
 use Rattle.std.proofs.lemmas.List.{length-append, append_assoc, append-nil, append_cancel_left, take-append-drop, take-take, take_at, drop_at, drop-take}
 use Rattle.encoding.specs.Wire.{varint, Field, number, bytes, encode_field, encode, Small}
 use Rattle.encoding.specs.Scanning.{cap, unvarint}
@@ -52,7 +52,7 @@ field_unique (bytes k v) (bytes j w) r s a b e =
     let same : k ≡ j = omega (arith, p.0) in
     (cc t.0, t.1)
 
-pub fields_split : (fs gs : List Field) (tail : List ℕ) → All Small fs → All Small gs → 0 < length tail → encode gs ≡ encode fs ++ tail
+pub fields_split : (fs gs : List Field) (tail : List ℕ) → AllByRecursion Small fs → AllByRecursion Small gs → 0 < length tail → encode gs ≡ encode fs ++ tail
     → (g : Field) × ((rest : List Field) × (gs ≡ fs ++ (g ∷ rest)) × (encode_field g ++ encode rest ≡ tail) × Small g)
 unfolding encode
 fields_split [] [] tail a b n e = absurd (omega (arith, ap length e))
@@ -71,7 +71,7 @@ field-some (number k v) = omega (arith, length-append (varint (8 * k)) (varint v
 field-some (bytes k b) = omega (arith, length-append (varint (8 * k + 2)) (varint (length b) ++ b), base128-some 9 (8 * k + 2))
 
 -- equal encodings are of equal fields
-pub encode_same : (fs gs : List Field) → All Small fs → All Small gs → encode fs ≡ encode gs → fs ≡ gs
+pub encode_same : (fs gs : List Field) → AllByRecursion Small fs → AllByRecursion Small gs → encode fs ≡ encode gs → fs ≡ gs
 unfolding encode
 encode_same [] [] a b e = refl
 encode_same [] (g ∷ gs) a b e = absurd (omega (arith, ap length e, length-append (encode_field g) (encode gs), field-some g))

@@ -1,7 +1,7 @@
 -- The limits, of what records mean. A record that the code can hold is one within the limits, and no other.
 use Rattle.std.specs.Prelude.{◌≡◌, ℕ, ◌^◌, ◌<◌, ◌≤◌, true, List, length, ℤ, IfSome}
 use Rattle.std.specs.Int.Signed.{mag}
-use Rattle.std.specs.List.{AllByRecursion as All}
+use Rattle.std.specs.List.{AllByRecursion}
 use Rattle.encoding.specs.Lists.{visible}
 use Rattle.encoding.specs.Meanings.{KeyDataMeaning, KeyTemplateMeaning, KeyMeaning, KeysetMeaning, KeyInfoMeaning, KeysetInfoMeaning, EncryptedKeysetMeaning}
 use Rattle.encoding.specs.Views.{key_data_view, key_template_view, key_view, keyset_view, key_info_view, keyset_info_view, encrypted_keyset_view}
@@ -37,7 +37,7 @@ pub record KeyWithin (m : KeyMeaning) : Type 0 where
 pub record KeysetWithin (m : KeysetMeaning) : Type 0 where
   pub primary : Unsigned32 m.primary_key_id
   pub few : length m.keys ≤ 16
-  pub all : All KeyWithin m.keys
+  pub all : AllByRecursion KeyWithin m.keys
 
 pub record KeyInfoWithin (m : KeyInfoMeaning) : Type 0 where
   pub url : UrlWithin m.type_url
@@ -48,7 +48,7 @@ pub record KeyInfoWithin (m : KeyInfoMeaning) : Type 0 where
 pub record KeysetInfoWithin (m : KeysetInfoMeaning) : Type 0 where
   pub primary : Unsigned32 m.primary_key_id
   pub few : length m.key_infos ≤ 16
-  pub all : All KeyInfoWithin m.key_infos
+  pub all : AllByRecursion KeyInfoWithin m.key_infos
 
 pub record EncryptedKeysetWithin (m : EncryptedKeysetMeaning) : Type 0 where
   pub sealed : length m.encrypted_keyset ≤ 4160

@@ -1,12 +1,12 @@
 -- Fields in the order of their numbers.
 use Rattle.std.specs.Prelude.{◌≡◌, ℕ, suc, ◌<◌, ◌≤◌, Bool, true, false, cond, leb, List, [], ◌∷◌, ◌++◌, ◌≢◌, nat_le, refl}
 use Rattle.std.proofs.Common.{sym, ap, subst, arith}
-use Rattle.std.specs.List.{AllByRecursion as All}
+use Rattle.std.specs.List.{AllByRecursion}
 use Rattle.std.proofs.lemmas.Bool.{le-leb, lt-leb}
 use Rattle.encoding.specs.Wire.{Field, number_of, Small}
 use Rattle.encoding.specs.Messages.{Ordered, up_to, past, last_of}
 
-pub all_small : (K : Field → Bool) (lo hi : ℕ) (fs : List Field) → Ordered K lo hi fs → All Small fs
+pub all_small : (K : Field → Bool) (lo hi : ℕ) (fs : List Field) → Ordered K lo hi fs → AllByRecursion Small fs
 unfolding Ordered
 all_small K lo hi [] o = tt
 all_small K lo hi (f ∷ fs) o = (o.3, all_small K (number_of f) hi fs o.4)
@@ -61,12 +61,12 @@ up_to_past K lo hi k (f ∷ B) o l =
     (rw t ih.0, rw t (ap (λ x. f ∷ x) ih.1))
 
 -- what stands between two numbers holds of each field
-pub within : (K : Field → Bool) (lo hi : ℕ) (fs : List Field) → Ordered K lo hi fs → All (λ f. (lo ≤ number_of f) × (number_of f ≤ hi) × (K f ≡ true)) fs
+pub within : (K : Field → Bool) (lo hi : ℕ) (fs : List Field) → Ordered K lo hi fs → AllByRecursion (λ f. (lo ≤ number_of f) × (number_of f ≤ hi) × (K f ≡ true)) fs
 unfolding Ordered
 within K lo hi [] o = tt
 within K lo hi (f ∷ fs) o = ((o.0, o.1, o.2), wider fs (within K (number_of f) hi fs o.4))
   where
-    wider : (gs : List Field) → All (λ g. (number_of f ≤ number_of g) × (number_of g ≤ hi) × (K g ≡ true)) gs → All (λ g. (lo ≤ number_of g) × (number_of g ≤ hi) × (K g ≡ true)) gs
+    wider : (gs : List Field) → AllByRecursion (λ g. (number_of f ≤ number_of g) × (number_of g ≤ hi) × (K g ≡ true)) gs → AllByRecursion (λ g. (lo ≤ number_of g) × (number_of g ≤ hi) × (K g ≡ true)) gs
     wider [] a = tt
     wider (g ∷ gs) a = ((omega (arith, o.0, a.0.0), a.0.1, a.0.2), wider gs a.1)
 
@@ -121,15 +121,15 @@ split_head K k j hi (x ∷ A) (y ∷ A') B' h hs a a' b n e =
     split_head K k (number_of x) hi A A' B' h hs a.4 (subst (λ (m : ℕ). Ordered K m k A') (sym (ap number_of u)) a'.4) b n v
 
 pub split_later : (K : Field → Bool) (k j hi : ℕ) (A A' B' X : List Field) (f : Field) (gs : List Field) → Ordered K j k A → Ordered K j k A' → Ordered K (suc k) hi B'
-    → All (λ x. k < number_of x) X → k < number_of f → A' ++ B' ≡ A ++ (X ++ (f ∷ gs)) → B' ≡ X ++ (f ∷ gs)
+    → AllByRecursion (λ x. k < number_of x) X → k < number_of f → A' ++ B' ≡ A ++ (X ++ (f ∷ gs)) → B' ≡ X ++ (f ∷ gs)
 split_later K k j hi A A' B' [] f gs a a' b x n e = split_head K k j hi A A' B' f gs a a' b n e
 split_later K k j hi A A' B' (y ∷ X) f gs a a' b x n e = split_head K k j hi A A' B' y (X ++ (f ∷ gs)) a a' b x.0 e
 
-pub up_to_above : (K : Field → Bool) (lo hi k : ℕ) (B : List Field) → Ordered K (suc lo) hi B → All (λ x. lo < number_of x) (up_to k B)
+pub up_to_above : (K : Field → Bool) (lo hi k : ℕ) (B : List Field) → Ordered K (suc lo) hi B → AllByRecursion (λ x. lo < number_of x) (up_to k B)
 unfolding Ordered up_to
 up_to_above K lo hi k [] o = tt
 up_to_above K lo hi k (f ∷ B) o = go (nat_le (number_of f) k) (up_to_above K lo hi k B (lower K (number_of f) (suc lo) hi B o.0 o.4))
   where
-    go : (b : Bool) → All (λ x. lo < number_of x) (up_to k B) → All (λ x. lo < number_of x) (cond b (f ∷ up_to k B) (up_to k B))
+    go : (b : Bool) → AllByRecursion (λ x. lo < number_of x) (up_to k B) → AllByRecursion (λ x. lo < number_of x) (cond b (f ∷ up_to k B) (up_to k B))
     go true rest = (o.0, rest)
     go false rest = rest

@@ -1,7 +1,7 @@
 -- A record as one part after another: what shows a record's contract from its parts', once for all records.
 use Rattle.std.specs.Prelude.{◌≡◌, ℕ, suc, ◌+◌, ◌<◌, ◌≤◌, Bool, true, false, List, [], ◌∷◌, ◌++◌}
 use Rattle.std.proofs.Common.{sym, ◌∙◌, ap, subst, arith}
-use Rattle.std.specs.List.{AllByRecursion as All}
+use Rattle.std.specs.List.{AllByRecursion}
 use Rattle.std.proofs.lemmas.List.{append_assoc, append-nil}
 use Rattle.encoding.specs.Wire.{Field, number, bytes, number_of, encode}
 use Rattle.encoding.specs.Messages.{Ordered, Sound, up_to, past, Took, Filled}
@@ -84,7 +84,7 @@ rest {R} {K} {k} {P} {Q} v false old new f n same h =
           (e ∙ ap (λ x. x ++ (f ∷ gs)) a.0 ∙ append_assoc (P old) (up_to (number_of f) (Q old)) (f ∷ gs))),
     )
 
-all_mid : {X : Type 0} (P : X → Type 0) (xs : List X) (x : X) (ys : List X) → All P (xs ++ (x ∷ ys)) → P x
+all_mid : {X : Type 0} (P : X → Type 0) (xs : List X) (x : X) (ys : List X) → AllByRecursion P (xs ++ (x ∷ ys)) → P x
 all_mid P [] x ys h = h.0
 all_mid P (y ∷ xs) x ys h = all_mid P xs x ys h.1
 
@@ -94,7 +94,7 @@ pub unknown : {R : Type 0} (fields : R → List Field) (K : Field → Bool) (mos
 unknown fields K most sound old new f unk same = (
   same,
   λ s gs e.
-      let y = all_mid (λ g. (1 ≤ number_of g) × (number_of g ≤ 15) × (K g ≡ true)) (up_to (number_of f) (fields old)) f gs (subst (All (λ g. (1 ≤ number_of g) × (number_of g ≤ 15) × (K g ≡ true))) e (within K 1 15 (fields s) (sound s).ordered)) in
+      let y = all_mid (λ g. (1 ≤ number_of g) × (number_of g ≤ 15) × (K g ≡ true)) (up_to (number_of f) (fields old)) f gs (subst (AllByRecursion (λ g. (1 ≤ number_of g) × (number_of g ≤ 15) × (K g ≡ true))) e (within K 1 15 (fields s) (sound s).ordered)) in
       let z : true ≡ false = sym y.2 ∙ unk in
       let w : ◌≡◌ {A = ℕ} 0 1 = cc in
       omega arith,
