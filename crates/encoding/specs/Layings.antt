@@ -92,3 +92,6 @@ pub wrote : (xs old new : List ℕ) (n : ℕ) → length xs ≤ length old → l
 wrote xs old new n l m p =
     let size : n ≡ length xs = omega (arith, p.ends) in
     record { size = size; after = p.after ∙ laid-whole xs old l ∙ ap (λ (k : ℕ). xs ++ drop k old) (sym size) }
+
+pub laid-beyond : (xs old : List ℕ) (at end : ℕ) → length old ≤ at → end ≡ min (at + length xs) (2 ^ 64 - 1) → Laid xs old at old end
+laid-beyond xs old at end l e = record { after = sym (laid-past at xs old l); ends = e }

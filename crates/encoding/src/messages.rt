@@ -1,10 +1,10 @@
 // The seven records, each by its own fields alone.
 ghost use Rattle.std.specs.Prelude.{◌≡◌};
+ghost use Rattle.std.proofs.Common.{rules};
 ghost use Rattle.encoding.specs.Known.{key_data_knows, key_template_knows, key_knows, keyset_knows, key_info_knows, keyset_info_knows, encrypted_keyset_knows};
 ghost use Rattle.encoding.specs.Views.{key_data_view, key_template_view, key_view, keyset_view, key_info_view, keyset_info_view, encrypted_keyset_view};
 ghost use Rattle.encoding.specs.Views.{fields_of_key_data, fields_of_key_template, fields_of_key, fields_of_keyset, fields_of_key_info, fields_of_keyset_info, fields_of_encrypted_keyset};
 ghost use Rattle.encoding.specs.KeyDatas;
-ghost use Rattle.std.proofs.Common.{rules, arith};
 ghost use Rattle.encoding.specs.KeyTemplates;
 ghost use Rattle.encoding.specs.Keys;
 ghost use Rattle.encoding.specs.Keysets;
@@ -33,7 +33,7 @@ impl Message for KeyData {
 
     ghost sound = { λ r. KeyDatas.sound r };
 
-    ghost modest = { first_of (Prim.search rules, Prim.grind (arith, Self.row.coded.inj)) };
+    ghost modest = { Prim.search rules };
 
     ghost told = { λ r s e. KeyDatas.told r s e };
 
@@ -90,7 +90,7 @@ impl Message for KeyTemplate {
 
     ghost sound = { λ r. KeyTemplates.sound r };
 
-    ghost modest = { first_of (Prim.search rules, Prim.grind (arith, Self.row.coded.inj)) };
+    ghost modest = { Prim.search rules };
 
     ghost told = { λ r s e. KeyTemplates.told r s e };
 
@@ -147,7 +147,7 @@ impl Message for Key {
 
     ghost sound = { λ r. Keys.sound r };
 
-    ghost modest = { first_of (Prim.search rules, Prim.grind (arith, Self.row.coded.inj)) };
+    ghost modest = { Prim.search rules };
 
     ghost told = { λ r s e. Keys.told r s e };
 
@@ -208,7 +208,7 @@ impl Message for Keyset {
 
     ghost sound = { λ r. Keysets.sound r };
 
-    ghost modest = { first_of (Prim.search rules, Prim.grind (arith, Self.row.coded.inj)) };
+    ghost modest = { Prim.search rules };
 
     ghost told = { λ r s e. Keysets.told r s e };
 
@@ -266,7 +266,7 @@ impl Message for KeyInfo {
 
     ghost sound = { λ r. KeyInfos.sound r };
 
-    ghost modest = { first_of (Prim.search rules, Prim.grind (arith, Self.row.coded.inj)) };
+    ghost modest = { Prim.search rules };
 
     ghost told = { λ r s e. KeyInfos.told r s e };
 
@@ -327,7 +327,7 @@ impl Message for KeysetInfo {
 
     ghost sound = { λ r. KeysetInfos.sound r };
 
-    ghost modest = { first_of (Prim.search rules, Prim.grind (arith, Self.row.coded.inj)) };
+    ghost modest = { Prim.search rules };
 
     ghost told = { λ r s e. KeysetInfos.told r s e };
 
