@@ -1,5 +1,8 @@
 -- What is claimed of the encoding as a whole.
-use Rattle.std.specs.Prelude.{◌≡◌, List, [], ◌∷◌, pos, None}
+use Rattle.std.specs.Prelude.{◌≡◌, List, [], ◌∷◌, pos, None, Decides}
+use Rattle.std.specs.Str.{bytes_eq}
+use Rattle.encoding.specs.declared.url.TypeUrl.{TypeUrl}
+use Rattle.encoding.specs.Lists.{list}
 use Rattle.encoding.specs.Wire.{Field, encode}
 use Rattle.encoding.specs.Meanings.{KeyMeaning, keyset_of, keyset_fields}
 use Rattle.encoding.specs.Views.{key_data_view, key_template_view, key_view, keyset_view, key_info_view, keyset_info_view, encrypted_keyset_view}
@@ -29,3 +32,7 @@ destroyed_key = record { key_data = None; status = pos 3; key_id = 7; output_pre
 abbrev pub OneDestroyedKey : Type 0
 OneDestroyedKey = encode (keyset_fields (keyset_of 7 (destroyed_key ∷ [])))
     ≡ 0x08 ∷ 0x07 ∷ 0x12 ∷ 0x06 ∷ 0x10 ∷ 0x03 ∷ 0x18 ∷ 0x07 ∷ 0x20 ∷ 0x01 ∷ []
+
+-- type URLs have equal bytes exactly where they are equal
+abbrev pub UrlsByBytes : Type 0
+UrlsByBytes = (a b : TypeUrl) → Decides (bytes_eq (list a.text) (list b.text)) (a ≡ b)

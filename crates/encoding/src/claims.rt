@@ -2,7 +2,7 @@
 ghost use Rattle.std.specs.Prelude.{◌≡◌, length, MatchResult};
 ghost use Rattle.encoding.specs.Wire.{encode};
 ghost use Rattle.encoding.specs.Messages.{Unwritten, Wrote};
-ghost use Rattle.encoding.specs.Claims.{EveryRecord, EmptyKeyset, OneDestroyedKey};
+ghost use Rattle.encoding.specs.Claims.{EveryRecord, EmptyKeyset, OneDestroyedKey, UrlsByBytes};
 ghost use Rattle.encoding.specs.Limits.{EveryLimit};
 
 use crate::message::{Message, read, write};
@@ -38,6 +38,13 @@ pub fn small_keysets() -> bool
 // What a record can hold is what the limits allow: no more, and no less.
 pub fn limits_are_exact() -> bool
     ensures { EveryLimit }
+{
+    true
+}
+
+// `==` of type URLs, which compares their bytes, says yes exactly for equal ones.
+pub fn urls_are_compared_by_bytes() -> bool
+    ensures { UrlsByBytes }
 {
     true
 }

@@ -41,9 +41,13 @@ pub trait Message: Copy {
     fn add_bytes(&mut self, field: u64, payload: &[u8]) -> bool
         ensures { Took fields result self.old self.new (bytes field payload.now) };
 
-    // How many bytes the encoding takes.
+    // How many bytes the encoding takes. It is measured by laying it over no output, unless a record counts.
     fn size(&self) -> usize
-        ensures { result ≡ length (encode (fields self.now)) };
+        ensures { result ≡ length (encode (fields self.now)) }
+    {
+        let mut none = [0; 0];
+        self.put(&mut none, 0)
+    }
 
     // Lays the encoding over the output from a place on, as far as it reaches, and answers where it would end.
     fn put(&self, out: &mut [u8], at: usize) -> usize
