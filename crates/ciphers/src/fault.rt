@@ -6,33 +6,33 @@ ghost use Rattle.ciphers.specs.Faults.{number_of, letter_of, fault, placed, reas
 
 use std::fmt;
 
-// Why a call refused. `number` gives each its number.
+// Why a call refused, each with its number in the table of docs/refusals.md.
 #[derive(Clone, Copy, PartialEq, Eq, Debug)]
 pub enum Refusal {
-    EmptyKeyset,
-    ZeroKeyId,
-    NoKeyData,
-    UnknownPrefixType,
-    UnknownStatus,
-    SecondPrimary,
-    NoneEnabled,
-    NoPrimary,
-    UnknownMaterial,
-    KeyNotFound,
-    KeyIsPrimary,
-    StatusBars,
-    NotRegistered,
-    RegisteredAlready,
-    EmptyValue,
-    KeyManagerReason,
-    NoWordLeft,
-    KeysetFull,
-    DoesNotOpen,
-    BreaksEncoding,
-    HoldsNothing,
-    Damaged,
-    WrongSize,
-    VersionTooHigh,
+    EmptyKeyset = 1,
+    ZeroKeyId = 2,
+    NoKeyData = 3,
+    UnknownPrefixType = 4,
+    UnknownStatus = 5,
+    SecondPrimary = 6,
+    NoneEnabled = 7,
+    NoPrimary = 8,
+    UnknownMaterial = 9,
+    KeyNotFound = 10,
+    KeyIsPrimary = 11,
+    StatusBars = 12,
+    NotRegistered = 13,
+    RegisteredAlready = 14,
+    EmptyValue = 15,
+    KeyManagerReason = 16,
+    NoWordLeft = 20,
+    KeysetFull = 21,
+    DoesNotOpen = 22,
+    BreaksEncoding = 23,
+    HoldsNothing = 24,
+    Damaged = 25,
+    WrongSize = 26,
+    VersionTooHigh = 27,
 }
 
 // Which layer refused. `letter` gives each its letter.
@@ -59,36 +59,10 @@ pub struct Fault {
 }
 
 impl Refusal {
-    // The refusal's number in the table of docs/refusals.md.
     pub fn number(&self) -> u8
         ensures { result ≡ number_of self.now }
     {
-        match self {
-            Refusal::EmptyKeyset => 1,
-            Refusal::ZeroKeyId => 2,
-            Refusal::NoKeyData => 3,
-            Refusal::UnknownPrefixType => 4,
-            Refusal::UnknownStatus => 5,
-            Refusal::SecondPrimary => 6,
-            Refusal::NoneEnabled => 7,
-            Refusal::NoPrimary => 8,
-            Refusal::UnknownMaterial => 9,
-            Refusal::KeyNotFound => 10,
-            Refusal::KeyIsPrimary => 11,
-            Refusal::StatusBars => 12,
-            Refusal::NotRegistered => 13,
-            Refusal::RegisteredAlready => 14,
-            Refusal::EmptyValue => 15,
-            Refusal::KeyManagerReason => 16,
-            Refusal::NoWordLeft => 20,
-            Refusal::KeysetFull => 21,
-            Refusal::DoesNotOpen => 22,
-            Refusal::BreaksEncoding => 23,
-            Refusal::HoldsNothing => 24,
-            Refusal::Damaged => 25,
-            Refusal::WrongSize => 26,
-            Refusal::VersionTooHigh => 27,
-        }
+        *self as u8
     }
 
     // What a person reads.
@@ -160,24 +134,14 @@ impl Fault {
     pub fn at(self, place: usize) -> Fault
         ensures { result ≡ placed place self }
     {
-        Fault {
-            refusal: self.refusal,
-            layer: self.layer,
-            place,
-            reason: self.reason,
-        }
+        Fault { place, ..self }
     }
 
     // The same fault with a key manager's reason.
     pub fn because(self, reason: u32) -> Fault
         ensures { result ≡ reasoned reason self }
     {
-        Fault {
-            refusal: self.refusal,
-            layer: self.layer,
-            place: self.place,
-            reason,
-        }
+        Fault { reason, ..self }
     }
 
     pub fn number(&self) -> u8
@@ -190,7 +154,7 @@ impl Fault {
     fn has_reason(&self) -> bool
         ensures { result ≡ has_reason self.now }
     {
-        self.number() == 16
+        self.refusal == Refusal::KeyManagerReason
     }
 
     pub fn letter(&self) -> char
