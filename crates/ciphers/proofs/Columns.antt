@@ -8,7 +8,7 @@ use Rattle.ciphers.specs.Gf256.{s_box}
 use Rattle.ciphers.specs.Fips197.{state_of, mix_column, full_round, last_round, add_round_key, mix_columns, shift_rows, sub_bytes}
 
 -- the bytes of an exclusive or of words
-byte_xor : (a b k : ℕ) → bit_xor a b / 2 ^ k % 2 ^ 8 ≡ bit_xor (a / 2 ^ k % 2 ^ 8) (b / 2 ^ k % 2 ^ 8)
+pub byte_xor : (a b k : ℕ) → bit_xor a b / 2 ^ k % 2 ^ 8 ≡ bit_xor (a / 2 ^ k % 2 ^ 8) (b / 2 ^ k % 2 ^ 8)
 byte_xor a b k = ap (λ (n : ℕ). n % 2 ^ 8) (xor_shr a b k) ∙ xor_mod (a / 2 ^ k) (b / 2 ^ k) 8
 
 pub word_bytes_xor : (a b : ℕ) → word_bytes (bit_xor a b) ≡ xors (word_bytes a) (word_bytes b)

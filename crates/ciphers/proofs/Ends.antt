@@ -1,6 +1,6 @@
 -- The last component of S2V, in parts.
 use Rattle.std.proofs.Common.{◌≡◌, ℕ, ◌+◌, ◌-◌, ◌*◌, ◌%◌, ◌^◌, ◌<◌, ◌≤◌, ltb, List, ◌++◌, length, take, drop, sym, refl, ap, ◌∙◌, append_assoc, zero-add, arith, length-append, length-drop}
-use Rattle.std.proofs.lemmas.List.{take_all, take_at, take_rest, length-take-le, drop_at, drop-drop, take-append-drop}
+use Rattle.std.proofs.lemmas.List.{take_at, length-take-le, drop_at, drop-drop, take-append-drop}
 use Rattle.std.proofs.lemmas.Bool.{lt-ltb, le-ltb, cond-true, cond-false}
 use Rattle.ciphers.specs.Bytes.{xors}
 use Rattle.ciphers.specs.Fips197.{cipher}
@@ -34,13 +34,11 @@ xor_end-append a m d long =
 
 -- the two parts absorbed one after the other
 pub end_absorbed : (p q r : Progress) (m d b e : List ℕ) (n : ℕ) → n + 16 ≡ length m
-    → q ≡ absorbed p (take n m) → b ≡ take 16 (take (length m - n) (drop n m)) → e ≡ xors b d → r ≡ absorbed q e
+    → q ≡ absorbed p (take n m) → b ≡ drop n m → e ≡ xors b d → r ≡ absorbed q e
     → r ≡ absorbed p (xor_end m d)
 unfolding xor_end
-end_absorbed p q r m d b e n len first block sum second =
+end_absorbed p q r m d b e n len first last sum second =
     let at : length m - 16 ≡ n = omega arith in
-    let rest : length (drop n m) ≡ 16 = length-drop n m ∙ omega arith in
-    let last : b ≡ drop n m = block ∙ (ap (take 16) (take_rest m n) ∙ take_all 16 (drop n m) (omega arith)) in
     second ∙ (ap (λ (s : Progress). absorbed s e) first ∙
     (ap (absorbed (absorbed p (take n m))) (sum ∙ ap (λ (l : List ℕ). xors l d) last) ∙
     (sym (absorbed-append p (take n m) (xors (drop n m) d)) ∙

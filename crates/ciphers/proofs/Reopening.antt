@@ -1,6 +1,7 @@
 -- What SIV sealed opens.
-use Rattle.std.proofs.Common.{◌≡◌, ℕ, ◌+◌, ◌-◌, ◌<◌, ◌≤◌, Bool, true, false, cond, ltb, List, [], ◌∷◌, ◌++◌, map, length, take, drop, Some, None, sym, refl, ap, ◌∙◌, arith, length-append, length-drop}
+use Rattle.std.proofs.Common.{◌≡◌, ℕ, ◌+◌, ◌-◌, ◌<◌, ◌≤◌, Bool, true, false, cond, ltb, List, [], ◌∷◌, ◌++◌, map, length, take, drop, Some, None, Option, Bor, sym, refl, ap, ◌∙◌, arith, length-append, length-drop}
 use lib.Bits.{bit_xor}
+use Rattle.std.specs.Option.{MatchOption}
 use Rattle.std.specs.Str.{bytes_eq}
 use Rattle.std.proofs.lemmas.Slice.Eq.{bytes_eq-Decides}
 use Rattle.std.proofs.lemmas.Simd.{length-zip2}
@@ -17,6 +18,7 @@ use Rattle.ciphers.specs.Sivs.{siv_key}
 use Rattle.ciphers.specs.Tagging.{mac_key}
 use Rattle.ciphers.proofs.Expanding.{round_key_lem, cipher_is}
 use Rattle.ciphers.proofs.Masking.{masks_twice, length-masked}
+use Rattle.ciphers.proofs.Refusing.{Opens, bytes_in}
 
 -- a cipher whose key is ready gives 16 bytes
 pub cipher-length : (k : Aes128) (text : List ℕ) → length (cipher (aes_key k) text) ≡ 16
@@ -123,3 +125,18 @@ siv_opens s ad p =
     let A = cipher (mac_key s.mac) in
     let E = cipher (aes_key s.ctr) in
     siv_opened_lem s ad (siv_sealed (siv_key s) ad p) ∙ (ap (opened A E ad) (siv_sealed_lem s ad p) ∙ sealed-opens A E (cipher-length s.mac.aes) ad p)
+
+-- the test of SIV, as decrypt needs it: the text that comes after V is as long as the plaintext
+pub opens-genuine : (s : Siv) (ad z : List ℕ) (t : Option (Bor (List ℕ)))
+    → MatchOption t (genuine (cipher (mac_key s.mac)) (cipher (aes_key s.ctr)) ad z ≡ false)
+    (λ x. (genuine (cipher (mac_key s.mac)) (cipher (aes_key s.ctr)) ad z ≡ true) × (16 ≤ length z) × (x.now ≡ drop 16 z))
+    → Opens bytes_in t (siv_opened (siv_key s) ad z)
+unfolding opened
+opens-genuine s ad z None h =
+    let A = cipher (mac_key s.mac) in
+    let E = cipher (aes_key s.ctr) in
+    siv_opened_lem s ad z ∙ cond-false (genuine A E ad z) _ _ h
+opens-genuine s ad z (Some x) h =
+    let A = cipher (mac_key s.mac) in
+    let E = cipher (aes_key s.ctr) in
+    (plain_of E z, siv_opened_lem s ad z ∙ opened-genuine A E ad z h.0, ap length h.2 ∙ (length-drop 16 z ∙ sym (plain_of_length E z)))

@@ -1,5 +1,5 @@
 // Authenticated encryption with associated data, into outputs that the caller lends.
-ghost use Rattle.std.specs.Prelude.{◌≡◌, ℕ, ◌≤◌, length, if◌then◌else◌, Ok, Err, nat_lt};
+ghost use Rattle.std.specs.Prelude.{◌≡◌, ℕ, ◌≤◌, length, if◌then◌else◌, Ok, Err, MatchOption, nat_lt};
 ghost use Rattle.ciphers.specs.declared.fault.Layer.TheVariants.{Aead as AeadLayer};
 ghost use Rattle.ciphers.specs.declared.fault.Refusal.TheVariants.{DoesNotOpen, WrongSize};
 ghost use Rattle.ciphers.specs.Faults.{fault};
@@ -16,14 +16,10 @@ const MAX_ASSOCIATED_DATA: usize = 256;
 pub trait Aead {
     ghost opens: { Self → Meaning };
 
-    ghost longer: { ℕ };
+    ghost OVERHEAD: { ℕ };
 
     // By how many bytes at most a ciphertext is longer than its plaintext.
     const OVERHEAD: usize;
-
-    // OVERHEAD, for contracts to cite.
-    fn expansion() -> usize
-        ensures { result ≡ longer };
 
     // Seals into the front of `out` and answers the length; which ciphertext it makes is left open.
     fn encrypt(
@@ -32,7 +28,7 @@ pub trait Aead {
         additional_data: &[u8],
         out: &mut [u8],
     ) -> Result<usize, Fault>
-        ensures { Encrypted (opens self.now) longer plaintext.now additional_data.now out.old out.new result };
+        ensures { Encrypted (opens self.now) OVERHEAD plaintext.now additional_data.now out.old out.new result };
 
     // Opens into the front of `out` and answers the length.
     fn decrypt(
@@ -44,7 +40,7 @@ pub trait Aead {
         ensures answer { result ≡ opening_answer (opens self.now ciphertext.now additional_data.now) (length out.old) }
         ensures output { out.new ≡ opened_into (opens self.now ciphertext.now additional_data.now) out.old };
 
-    ghost few: { longer ≤ 64 };
+    ghost few: { OVERHEAD ≤ 64 };
 }
 
 // What encrypt tests, of the three lengths.
@@ -63,15 +59,14 @@ pub(crate) fn check_sizes(
     Ok(())
 }
 
-// What decrypt tests: first whether it opens, then whether the n bytes of the plaintext have room.
-pub(crate) fn check_opening(opens: bool, n: usize, room: usize) -> Result<(), Fault>
-    ensures { result ≡ (if opens then (if nat_lt room n then Err (fault WrongSize AeadLayer) else Ok tt) else Err (fault DoesNotOpen AeadLayer)) }
+// What decrypt tests: first whether there is a text that opens, then whether its plaintext, as long as it, has room.
+pub(crate) fn check_opening(text: Option<&[u8]>, room: usize) -> Result<&[u8], Fault>
+    ensures { MatchOption text.entry (result ≡ Err (fault DoesNotOpen AeadLayer))
+        (λ t. result ≡ (if nat_lt room (length t.now) then Err (fault WrongSize AeadLayer) else Ok t)) }
 {
-    if !opens {
-        return Err(Fault::new(Refusal::DoesNotOpen, Layer::Aead));
-    }
-    if room < n {
+    let text = text.ok_or(Fault::new(Refusal::DoesNotOpen, Layer::Aead))?;
+    if room < text.len() {
         return Err(Fault::new(Refusal::WrongSize, Layer::Aead));
     }
-    Ok(())
+    Ok(text)
 }

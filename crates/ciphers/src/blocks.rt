@@ -3,17 +3,6 @@ ghost use Rattle.std.specs.Prelude.{◌≡◌, ◌+◌, ◌<◌, ◌≤◌, [], 
 ghost use Rattle.ciphers.specs.Bytes.{xors, number, bytes};
 ghost use Rattle.ciphers.specs.Rfc4493.{shifted, dbl, padded};
 
-// The exclusive or of two blocks.
-pub(crate) fn xor(a: [u8; 16], b: [u8; 16]) -> [u8; 16]
-    ensures { result ≡ xors a b }
-{
-    let mut r = [0u8; 16];
-    for i in 0..16 {
-        r[i] = a[i] ^ b[i];
-    }
-    r
-}
-
 // The number that a block stands for, its first byte the highest.
 pub(crate) fn number_of(block: [u8; 16]) -> u128
     ensures { result ≡ number block }
@@ -25,6 +14,13 @@ pub(crate) fn block_of(n: u128) -> [u8; 16]
     ensures { result ≡ bytes 16 n }
 {
     n.to_be_bytes()
+}
+
+// The exclusive or of two blocks.
+pub(crate) fn xor(a: [u8; 16], b: [u8; 16]) -> [u8; 16]
+    ensures { result ≡ xors a b }
+{
+    block_of(number_of(a) ^ number_of(b))
 }
 
 fn shift(n: u128) -> u128
@@ -44,17 +40,16 @@ pub(crate) fn double(block: [u8; 16]) -> [u8; 16]
     block_of(shift(number_of(block)))
 }
 
-// The first n bytes of a block, a bit 1, and zeros.
-pub(crate) fn pad(block: [u8; 16], n: usize) -> [u8; 16]
-    requires { n < 16 }
-    ensures { result ≡ padded (take n block) }
+// Less than a block, a bit 1, and zeros.
+pub(crate) fn pad(rest: &[u8]) -> [u8; 16]
+    requires { length rest.now < 16 }
+    ensures { result ≡ padded rest.now }
 {
-    let mut r = [0u8; 16];
-    for i in 0..n {
-        r[i] = block[i];
-    }
-    r[n] = 0x80;
-    r
+    let n = rest.len();
+    let mut block = [0u8; 16];
+    block[..n].copy_from_slice(rest);
+    block[n] = 0x80;
+    block
 }
 
 // The first 16 bytes of a slice.
@@ -62,7 +57,5 @@ pub(crate) fn front(s: &[u8]) -> [u8; 16]
     requires { 16 ≤ length s.now }
     ensures { result ≡ take 16 s.now }
 {
-    let mut block = [0u8; 16];
-    block.copy_from_slice(&s[0..16]);
-    block
+    *s.first_chunk().unwrap()
 }

@@ -1,7 +1,7 @@
 // An Aead that hides nothing and guards against nothing but a text of another length: for tests and the work bench.
-ghost use Rattle.std.specs.Prelude.{◌≡◌, ◌+◌, ◌≤◌, ◌++◌, length, drop};
+ghost use Rattle.std.specs.Prelude.{◌≡◌, ◌+◌, ◌≤◌, ◌++◌, length, drop, Some, None, MatchOption};
 ghost use Rattle.ciphers.specs.Aeads.{Encrypted, out_of_bounds, sealing_answer, sealed_into};
-ghost use Rattle.ciphers.specs.Covers.{covered, uncovered, agree};
+ghost use Rattle.ciphers.specs.Covers.{covered, uncovered};
 ghost use Rattle.std.proofs.Common.{rules};
 
 use crate::aead::{Aead, check_opening, check_sizes};
@@ -17,33 +17,31 @@ fn cover(plain: &[u8], text: &[u8], out: &mut [u8])
     ensures { out.new ≡ covered text.now plain.now ++ drop (4 + length plain.now) out.old }
 {
     let head = (text.len() as u32).to_be_bytes();
-    out[0..4].copy_from_slice(&head);
+    out[..4].copy_from_slice(&head);
     out[4..4 + plain.len()].copy_from_slice(plain);
 }
 
-// Whether the first four bytes are the text's length, as numbers of any size.
-fn agrees(sealed: &[u8], text: &[u8]) -> bool
-    ensures { result ≡ agree sealed.now text.now }
+// The plaintext of a sealed text, if its first four bytes are the text's length, as numbers of any size.
+fn uncover<'a>(sealed: &'a [u8], text: &[u8]) -> Option<&'a [u8]>
+    ensures { MatchOption result (uncovered sealed.now text.now ≡ None) (λ plain. uncovered sealed.now text.now ≡ Some plain.now) }
 {
-    if sealed.len() < 4 {
-        return false;
+    let (head, plain) = sealed.split_first_chunk::<4>()?;
+    let written = u32::from_be_bytes(*head);
+    if written as usize == text.len() {
+        Some(plain)
+    } else {
+        None
     }
-    let written = u32::from_be_bytes([sealed[0], sealed[1], sealed[2], sealed[3]]);
-    written as usize == text.len()
 }
 
 impl Aead for PlainCover {
     ghost opens = { λ _. uncovered };
 
-    ghost longer = { 4 };
+    ghost OVERHEAD = { 4 };
 
     const OVERHEAD: usize = 4;
 
     ghost few = { Prim.search rules };
-
-    fn expansion() -> usize {
-        Self::OVERHEAD
-    }
 
     fn encrypt(
         &self,
@@ -71,9 +69,8 @@ impl Aead for PlainCover {
         additional_data: &[u8],
         out: &mut [u8],
     ) -> Result<usize, Fault> {
-        let n = ciphertext.len().saturating_sub(4);
-        check_opening(agrees(ciphertext, additional_data), n, out.len())?;
-        out[0..n].copy_from_slice(&ciphertext[4..]);
-        Ok(n)
+        let plain = check_opening(uncover(ciphertext, additional_data), out.len())?;
+        out[..plain.len()].copy_from_slice(plain);
+        Ok(plain.len())
     }
 }

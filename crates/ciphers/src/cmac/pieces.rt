@@ -1,5 +1,5 @@
 // A running tag: the smallest steps, and pieces of any length.
-ghost use Rattle.std.specs.Prelude.{◌≡◌, ℕ, ◌<◌, ◌≤◌, List, [], ◌∷◌, length, drop};
+ghost use Rattle.std.specs.Prelude.{◌≡◌, ℕ, ◌<◌, ◌≤◌, List, [], ◌∷◌, length};
 ghost use Rattle.ciphers.specs.Tagging.{progress, absorbed, turned_over, held_with};
 
 use super::Running;
@@ -44,29 +44,28 @@ impl Running<'_> {
         self.n = 16;
     }
 
-    // Absorbs a block or a byte off the front of `more`, and says how many bytes that were.
-    fn absorb_front(&mut self, more: &[u8]) -> usize
+    // Absorbs a block or a byte off the front of `more`, and gives what is left of it.
+    fn absorb_front<'a>(&mut self, more: &'a [u8]) -> &'a [u8]
         requires { 0 < length more.now }
-        ensures some { (0 < result) × (result ≤ length more.now) }
-        ensures after { absorbed (progress self.new) (drop result more.now) ≡ absorbed (progress self.old) more.now }
+        ensures fewer { length result.now < length more.now }
+        ensures after { absorbed (progress self.new) result.now ≡ absorbed (progress self.old) more.now }
     {
         self.make_room();
         if self.n == 0 && more.len() >= 16 {
             self.hold_block(front(more));
-            return 16;
+            return &more[16..];
         }
         self.hold(more[0]);
-        1
+        &more[1..]
     }
 
     // Absorbs a piece of the message.
     pub fn absorb(&mut self, piece: &[u8])
         ensures { progress self.new ≡ absorbed (progress self.old) piece.now }
     {
-        let mut at = 0;
-        while at < piece.len() {
-            let n = self.absorb_front(&piece[at..]);
-            at += n;
+        let mut rest = piece;
+        while !rest.is_empty() {
+            rest = self.absorb_front(rest);
         }
     }
 }

@@ -1,5 +1,5 @@
 // A key made ready, and the tags under it.
-ghost use Rattle.std.specs.Prelude.{◌≡◌, ℕ, ◌≤◌, List, take};
+ghost use Rattle.std.specs.Prelude.{◌≡◌, ℕ, ◌≤◌, List, length};
 ghost use Rattle.ciphers.specs.Fips197.{cipher};
 ghost use Rattle.ciphers.specs.Rfc4493.{last_block, cmac};
 ghost use Rattle.ciphers.specs.Tagging.{mac_key, progress, begun, absorbed, tag_of, TagsJoin};
@@ -38,15 +38,14 @@ impl Cmac {
         }
     }
 
-    // M_last, of the n bytes that are left for the last block.
-    fn last_block(&self, block: [u8; 16], n: usize) -> [u8; 16]
-        requires { n ≤ 16 }
-        ensures { result ≡ last_block (cipher (mac_key self.now)) (take n block) }
+    // M_last, of what is left for the last block.
+    fn last_block(&self, rest: &[u8]) -> [u8; 16]
+        requires { length rest.now ≤ 16 }
+        ensures { result ≡ last_block (cipher (mac_key self.now)) rest.now }
     {
-        if n == 16 {
-            xor(block, self.k1)
-        } else {
-            xor(pad(block, n), double(self.k1))
+        match rest.first_chunk() {
+            Some(block) => xor(*block, self.k1),
+            None => xor(pad(rest), double(self.k1)),
         }
     }
 }
@@ -57,7 +56,7 @@ impl Running<'_> {
         ensures value { result ≡ tag_of (progress self.now) }
         ensures tag { (key m : List ℕ) → progress self.now ≡ absorbed (begun key) m → result ≡ cmac (cipher key) m }
     {
-        let last = self.mac.last_block(self.block, self.n);
+        let last = self.mac.last_block(&self.block[..self.n]);
         self.mac.aes.encrypt(xor(self.x, last))
     }
 }

@@ -12,15 +12,11 @@ use crate::fault::Fault;
 impl Aead for Siv {
     ghost opens = { λ s c ad. siv_opened (siv_key s) ad c };
 
-    ghost longer = { 16 };
+    ghost OVERHEAD = { 16 };
 
     const OVERHEAD: usize = 16;
 
     ghost few = { Prim.search rules };
-
-    fn expansion() -> usize {
-        Self::OVERHEAD
-    }
 
     fn encrypt(
         &self,
@@ -49,9 +45,8 @@ impl Aead for Siv {
         additional_data: &[u8],
         out: &mut [u8],
     ) -> Result<usize, Fault> {
-        let n = ciphertext.len().saturating_sub(16);
-        check_opening(self.is_genuine(additional_data, ciphertext), n, out.len())?;
+        let text = check_opening(self.genuine(additional_data, ciphertext), out.len())?;
         self.unmask(ciphertext, out);
-        Ok(n)
+        Ok(text.len())
     }
 }

@@ -1,12 +1,12 @@
 // S2V of an associated text and a plaintext.
-ghost use Rattle.std.specs.Prelude.{◌≡◌, ◌<◌, ◌≤◌, length, take};
+ghost use Rattle.std.specs.Prelude.{◌≡◌, ◌<◌, ◌≤◌, length};
 ghost use Rattle.ciphers.specs.Bytes.{xors, zeros};
 ghost use Rattle.ciphers.specs.Fips197.{cipher};
 ghost use Rattle.ciphers.specs.Rfc4493.{cmac, dbl, padded};
 ghost use Rattle.ciphers.specs.Rfc5297.{lastly, xor_end};
 ghost use Rattle.ciphers.specs.Tagging.{mac_key, progress, absorbed, tag_of};
 
-use crate::blocks::{double, front, pad, xor};
+use crate::blocks::{double, pad, xor};
 use crate::cmac::{Cmac, Running};
 
 // D after the associated text.
@@ -22,33 +22,27 @@ pub(super) fn end_tag(running: &mut Running, rest: &[u8], d: [u8; 16]) -> [u8; 1
     requires { 16 ≤ length rest.now }
     ensures { result ≡ tag_of (absorbed (progress running.old) (xor_end rest.now d)) }
 {
-    let from = rest.len() - 16;
-    running.absorb(&rest[0..from]);
-    let end = xor(front(&rest[from..]), d);
-    running.absorb(&end);
+    let (before, last) = rest.split_last_chunk().unwrap();
+    running.absorb(before);
+    running.absorb(&xor(*last, d));
     running.finish()
 }
 
-// The tag where the last component is the first n bytes of a block.
-pub(super) fn short_tag(mac: &Cmac, block: [u8; 16], n: usize, d: [u8; 16]) -> [u8; 16]
-    requires { n < 16 }
-    ensures { result ≡ cmac (cipher (mac_key mac.now)) (xors (dbl d) (padded (take n block))) }
+// The tag where the last component is less than a block.
+pub(super) fn short_tag(mac: &Cmac, rest: &[u8], d: [u8; 16]) -> [u8; 16]
+    requires { length rest.now < 16 }
+    ensures { result ≡ cmac (cipher (mac_key mac.now)) (xors (dbl d) (padded rest.now)) }
 {
-    let mixed = xor(double(d), pad(block, n));
-    mac.tag(&mixed)
+    mac.tag(&xor(double(d), pad(rest)))
 }
 
 // V, where the plaintext is at hand.
 pub(super) fn plain_tag(mac: &Cmac, d: [u8; 16], plain: &[u8]) -> [u8; 16]
     ensures { result ≡ lastly (cipher (mac_key mac.now)) d plain.now }
 {
-    let n = plain.len();
-    if n < 16 {
-        let mut block = [0u8; 16];
-        block[0..n].copy_from_slice(plain);
-        short_tag(mac, block, n, d)
-    } else {
-        let mut running = mac.start();
-        end_tag(&mut running, plain, d)
+    if plain.len() < 16 {
+        return short_tag(mac, plain, d);
     }
+    let mut running = mac.start();
+    end_tag(&mut running, plain, d)
 }

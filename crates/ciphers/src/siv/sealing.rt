@@ -1,6 +1,5 @@
 // Sealing, and the test of a sealed text.
-ghost use Rattle.std.specs.Prelude.{◌≡◌, ◌+◌, ◌-◌, ◌≤◌, T, ◌++◌, length, drop};
-ghost use Rattle.std.specs.Str.{bytes_eq};
+ghost use Rattle.std.specs.Prelude.{◌≡◌, ◌+◌, ◌-◌, ◌≤◌, true, false, ◌++◌, length, drop, MatchOption};
 ghost use Rattle.ciphers.specs.Bytes.{number};
 ghost use Rattle.ciphers.specs.Fips197.{cipher};
 ghost use Rattle.ciphers.specs.Keys.{aes_key};
@@ -10,7 +9,6 @@ ghost use Rattle.ciphers.specs.Tagging.{mac_key};
 
 use super::Siv;
 use super::s2v::{gather, plain_tag};
-use super::unmask::masked_tag;
 use crate::aes::Aes128;
 use crate::blocks::{front, number_of};
 use crate::cmac::Cmac;
@@ -21,12 +19,6 @@ fn clear(v: [u8; 16]) -> u128
     ensures { result ≡ cleared (number v) }
 {
     number_of(v) & 0xffffffff_ffffffff_7fffffff_7fffffff
-}
-
-fn same(a: &[u8], b: &[u8]) -> bool
-    ensures { result ≡ bytes_eq a.now b.now }
-{
-    a == b
 }
 
 impl Siv {
@@ -47,22 +39,20 @@ impl Siv {
     {
         let d = gather(&self.mac, ad);
         let v = plain_tag(&self.mac, d, plain);
-        out[0..16].copy_from_slice(&v);
+        out[..16].copy_from_slice(&v);
         mask(&self.ctr, clear(v), plain, &mut out[16..]);
     }
 
-    // Whether V is S2V's value of the plaintext that comes after it.
-    pub(super) fn is_genuine(&self, ad: &[u8], sealed: &[u8]) -> bool
-        ensures value { result ≡ genuine (cipher (mac_key self.now.mac)) (cipher (aes_key self.now.ctr)) ad.now sealed.now }
-        ensures long { T result → 16 ≤ length sealed.now }
+    // What comes after V, if V is S2V's value of the plaintext that it masks.
+    pub(super) fn genuine<'a>(&self, ad: &[u8], sealed: &'a [u8]) -> Option<&'a [u8]>
+        ensures { MatchOption result
+            (genuine (cipher (mac_key self.now.mac)) (cipher (aes_key self.now.ctr)) ad.now sealed.now ≡ false)
+            (λ text. (genuine (cipher (mac_key self.now.mac)) (cipher (aes_key self.now.ctr)) ad.now sealed.now ≡ true) × (16 ≤ length sealed.now) × (text.now ≡ drop 16 sealed.now)) }
     {
-        if sealed.len() < 16 {
-            return false;
-        }
-        let v = front(sealed);
+        let (v, text) = sealed.split_first_chunk::<16>()?;
         let d = gather(&self.mac, ad);
-        let t = masked_tag(&self.mac, &self.ctr, clear(v), d, &sealed[16..]);
-        same(&t, &v)
+        let t = self.masked_tag(clear(*v), d, text);
+        if t == *v { Some(text) } else { None }
     }
 
     // Unmasks what comes after V.

@@ -6,40 +6,40 @@ ghost use Rattle.ciphers.specs.Rfc4493.{cmac};
 ghost use Rattle.ciphers.specs.Rfc5297.{lastly, xor_end, masked};
 ghost use Rattle.ciphers.specs.Tagging.{mac_key};
 
+use super::Siv;
 use super::s2v::{end_tag, short_tag};
-use crate::aes::Aes128;
 use crate::blocks::{front, xor};
-use crate::cmac::Cmac;
 use crate::ctr::{mask, stream_block};
 
-// All whole blocks but the last are unmasked and absorbed one by one; the rest, 16 to 31 bytes, comes after them.
-fn long_tag(mac: &Cmac, ctr: &Aes128, q: u128, d: [u8; 16], text: &[u8]) -> [u8; 16]
-    requires { 16 ≤ length text.now }
-    ensures { result ≡ cmac (cipher (mac_key mac.now)) (xor_end (masked (cipher (aes_key ctr.now)) q text.now) d) }
-{
-    let whole = text.len() / 16 - 1;
-    let mut running = mac.start();
-    for j in 0..whole {
-        let plain = xor(front(&text[16 * j..]), stream_block(ctr, q, j));
-        running.absorb(&plain);
+impl Siv {
+    // All whole blocks but the last are unmasked and absorbed one by one; the rest, 16 to 31 bytes, comes after them.
+    fn long_tag(&self, q: u128, d: [u8; 16], text: &[u8]) -> [u8; 16]
+        requires { 16 ≤ length text.now }
+        ensures { result ≡ cmac (cipher (mac_key self.now.mac)) (xor_end (masked (cipher (aes_key self.now.ctr)) q text.now) d) }
+    {
+        let whole = text.len() / 16 - 1;
+        let mut running = self.mac.start();
+        for j in 0..whole {
+            let plain = xor(front(&text[16 * j..]), stream_block(&self.ctr, q, j));
+            running.absorb(&plain);
+        }
+        let rest = &text[16 * whole..];
+        let n = rest.len();
+        let mut tail = [0u8; 32];
+        mask(&self.ctr, q.wrapping_add(whole as u128), rest, &mut tail);
+        end_tag(&mut running, &tail[..n], d)
     }
-    let rest = &text[16 * whole..];
-    let n = rest.len();
-    let mut tail = [0u8; 32];
-    mask(ctr, q.wrapping_add(whole as u128), rest, &mut tail);
-    end_tag(&mut running, &tail[0..n], d)
-}
 
-// V of the plaintext that `text` masks.
-pub(super) fn masked_tag(mac: &Cmac, ctr: &Aes128, q: u128, d: [u8; 16], text: &[u8]) -> [u8; 16]
-    ensures { result ≡ lastly (cipher (mac_key mac.now)) d (masked (cipher (aes_key ctr.now)) q text.now) }
-{
-    let n = text.len();
-    if n < 16 {
+    // V of the plaintext that `text` masks.
+    pub(super) fn masked_tag(&self, q: u128, d: [u8; 16], text: &[u8]) -> [u8; 16]
+        ensures { result ≡ lastly (cipher (mac_key self.now.mac)) d (masked (cipher (aes_key self.now.ctr)) q text.now) }
+    {
+        let n = text.len();
+        if n >= 16 {
+            return self.long_tag(q, d, text);
+        }
         let mut block = [0u8; 16];
-        mask(ctr, q, text, &mut block);
-        short_tag(mac, block, n, d)
-    } else {
-        long_tag(mac, ctr, q, d, text)
+        mask(&self.ctr, q, text, &mut block);
+        short_tag(&self.mac, &block[..n], d)
     }
 }

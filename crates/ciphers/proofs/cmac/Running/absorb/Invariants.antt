@@ -1,9 +1,9 @@
-use Rattle.std.proofs.Common.{◌≡◌, ◌-◌, ◌≤◌, length, drop}
+use Rattle.std.proofs.Common.{◌≡◌, length}
 use Rattle.ciphers.specs.Tagging.{progress, absorbed}
 use Rattle.ciphers.proofs.cmac.Running.absorb.Given as goal
 
-abbrev pub invariant-loop-at : goal.invariant-loop-at
-invariant-loop-at l = (l.at ≤ length l.piece) × (absorbed (progress l.self) (drop l.at l.piece) ≡ absorbed (progress l.initial.self) l.piece)
+abbrev pub invariant-loop-rest : goal.invariant-loop-rest
+invariant-loop-rest l = absorbed (progress l.self) l.rest ≡ absorbed (progress l.initial.self) l.fn.piece
 
-abbrev pub decreases-loop-at : goal.decreases-loop-at
-decreases-loop-at l = length l.initial.piece - l.at
+abbrev pub decreases-loop-rest : goal.decreases-loop-rest
+decreases-loop-rest l = length l.rest

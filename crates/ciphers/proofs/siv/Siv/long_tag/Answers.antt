@@ -8,7 +8,7 @@ use Rattle.ciphers.specs.Tagging.{Progress, mac_key, progress, begun, absorbed}
 use Rattle.ciphers.proofs.Masking.{take_parts, masked-next, masked-front}
 use Rattle.ciphers.proofs.InPieces.{absorbed-append, absorbed-none}
 use Rattle.ciphers.proofs.Ends.{tail_tag}
-use Rattle.ciphers.proofs.siv.unmask.long_tag.Goals as goal
+use Rattle.ciphers.proofs.siv.Siv.long_tag.Goals as goal
 
 pub loop-j-init : goal.loop-j-init
 unfolding masked_from
@@ -16,8 +16,8 @@ loop-j-init c = c.start-running.ensures ∙ sym (absorbed-none _)
 
 pub loop-j-preserved : goal.loop-j-preserved
 loop-j-preserved c =
-    let E = cipher (aes_key c.args.ctr.now) in
-    let p = begun (mac_key c.args.mac.now) in
+    let E = cipher (aes_key c.args.self.now.ctr) in
+    let p = begun (mac_key c.args.self.now.mac) in
     let text = c.args.text.now in
     let j = c.loop-j.j in
     let at = 16 * j in
@@ -36,15 +36,15 @@ loop-j-preserved c =
 
 pub returns : goal.returns
 returns c =
-    let E = cipher (aes_key c.args.ctr.now) in
-    let key = mac_key c.args.mac.now in
+    let E = cipher (aes_key c.args.self.now.ctr) in
+    let key = mac_key c.args.self.now.mac in
     let text = c.args.text.now in
     let whole = length text / 16 - 1 in
     let end : c.loop-j.j ≡ whole = omega arith in
     let rest = take_rest text (16 * whole) in
     let n = length (take (length text - 16 * whole) (drop (16 * whole) text)) in
     let later = (c.args.q + whole) % 2 ^ 128 in
-    let tail = masked-front E later (n - 0) _ c.mask.new.out _ c.mask.ensures (omega arith) ∙ ap (masked E later) rest in
+    let tail = masked-front E later n _ c.mask.new.out _ c.mask.ensures (omega arith) ∙ ap (masked E later) rest in
     c.end_tag.ensures ∙
     tail_tag key E c.args.q whole text _ c.args.d (progress c.loop-j.running) (omega arith)
     (c.loop-j.invariant ∙ ap (λ (k : ℕ). absorbed (begun key) (masked E c.args.q (take (16 * k) text))) end) tail

@@ -3,7 +3,7 @@ use Rattle.ciphers.specs.Fips197.{cipher}
 use Rattle.ciphers.specs.Keys.{aes_key}
 use Rattle.ciphers.specs.Rfc5297.{masked}
 use Rattle.ciphers.specs.Tagging.{mac_key, progress, begun, absorbed}
-use Rattle.ciphers.proofs.siv.unmask.long_tag.Given as goal
+use Rattle.ciphers.proofs.siv.Siv.long_tag.Given as goal
 
 abbrev pub invariant-loop-j : goal.invariant-loop-j
-invariant-loop-j l = progress l.running ≡ absorbed (begun (mac_key l.mac)) (masked (cipher (aes_key l.ctr)) l.q (take (16 * l.j) l.text))
+invariant-loop-j l = progress l.running ≡ absorbed (begun (mac_key l.self.mac)) (masked (cipher (aes_key l.self.ctr)) l.q (take (16 * l.j) l.text))
