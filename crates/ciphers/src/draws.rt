@@ -38,12 +38,10 @@ impl Draws for Tape<'_> {
     ghost left = { λ t. t.words.now };
 
     fn draw(&mut self) -> Result<u32, Fault> {
-        let words = self.words;
-        if words.len() == 0 {
-            return Err(Fault::new(Refusal::NoWordLeft, Layer::Draws));
-        }
-        self.words = &words[1..];
-        Ok(words[0])
+        let none_left = Fault::new(Refusal::NoWordLeft, Layer::Draws);
+        let (first, rest) = self.words.split_first().ok_or(none_left)?;
+        self.words = rest;
+        Ok(*first)
     }
 }
 
