@@ -27,6 +27,13 @@ mix_column a b c d =
     bit_xor (bit_xor (bit_xor a b) (mul 2 c)) (mul 3 d) ∷
     bit_xor (bit_xor (bit_xor (mul 3 a) b) c) (mul 2 d) ∷ []
 
+-- what the byte y in row r of a column gives to it: y times column r of the matrix
+abbrev pub row_part : ℕ → ℕ → List ℕ
+row_part zero y = mul 2 y ∷ y ∷ y ∷ mul 3 y ∷ []
+row_part (suc zero) y = mul 3 y ∷ mul 2 y ∷ y ∷ y ∷ []
+row_part (suc (suc zero)) y = y ∷ mul 3 y ∷ mul 2 y ∷ y ∷ []
+row_part (suc (suc (suc r))) y = y ∷ y ∷ mul 3 y ∷ mul 2 y ∷ []
+
 abbrev mixed_column : List ℕ → ℕ → List ℕ
 mixed_column s c = mix_column (at s 0 c) (at s 1 c) (at s 2 c) (at s 3 c)
 

@@ -4,13 +4,13 @@ ghost use Rattle.ciphers.specs.Bytes.{word_bytes, xors};
 ghost use Rattle.ciphers.specs.Gf256.{s_box};
 ghost use Rattle.ciphers.specs.Fips197.{state_of, mix_column, full_round, last_round, add_round_key};
 
-use super::tables::{row0, row1, row2, row3, sbox};
+use super::tables::{row, sbox};
 
 // A column after a round, from the bytes that SHIFTROWS brings into it and a word of the round key.
 fn column(a: u8, b: u8, c: u8, d: u8, k: u32) -> u32
     ensures { word_bytes result ≡ xors (mix_column (s_box a) (s_box b) (s_box c) (s_box d)) (word_bytes k) }
 {
-    row0(a) ^ row1(b) ^ row2(c) ^ row3(d) ^ k
+    row::<0>(a) ^ row::<1>(b) ^ row::<2>(c) ^ row::<3>(d) ^ k
 }
 
 // The word of the S-box values of four bytes.

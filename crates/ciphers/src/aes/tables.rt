@@ -1,9 +1,10 @@
 // The four round tables. Each word holds what one byte of a column gives to the column that MixColumns makes of it:
 // the products of the byte's S-box value with one column of the fixed matrix.
-// Each table is read by one function alone, whose contract is the table's rule.
-ghost use Rattle.std.specs.Prelude.{◌≡◌, [], ◌∷◌};
+// They are read by one function alone, whose contract is the rule of each.
+ghost use Rattle.std.specs.Prelude.{◌≡◌, ◌<◌};
 ghost use Rattle.ciphers.specs.Bytes.{word_bytes};
-ghost use Rattle.ciphers.specs.Gf256.{mul, s_box};
+ghost use Rattle.ciphers.specs.Gf256.{s_box};
+ghost use Rattle.ciphers.specs.Fips197.{row_part};
 
 const T0: [u32; 256] = [
     0xc66363a5, 0xf87c7c84, 0xee777799, 0xf67b7b8d, 0xfff2f20d, 0xd66b6bbd, 0xde6f6fb1, 0x91c5c554,
@@ -145,37 +146,19 @@ const T3: [u32; 256] = [
     0x4141c382, 0x9999b029, 0x2d2d775a, 0x0f0f111e, 0xb0b0cb7b, 0x5454fca8, 0xbbbbd66d, 0x16163a2c,
 ];
 
-// What the byte in row 0 of a column gives.
-pub(super) fn row0(x: u8) -> u32
-    ensures { word_bytes result ≡ mul 2 (s_box x) ∷ s_box x ∷ s_box x ∷ mul 3 (s_box x) ∷ [] }
-{
-    T0[x as usize]
-}
+const TABLES: [[u32; 256]; 4] = [T0, T1, T2, T3];
 
-// In row 1.
-pub(super) fn row1(x: u8) -> u32
-    ensures { word_bytes result ≡ mul 3 (s_box x) ∷ mul 2 (s_box x) ∷ s_box x ∷ s_box x ∷ [] }
+// What the byte in row R of a column gives.
+pub(super) fn row<const R: usize>(x: u8) -> u32
+    requires { R < 4 }
+    ensures { word_bytes result ≡ row_part R (s_box x) }
 {
-    T1[x as usize]
-}
-
-// In row 2.
-pub(super) fn row2(x: u8) -> u32
-    ensures { word_bytes result ≡ s_box x ∷ mul 3 (s_box x) ∷ mul 2 (s_box x) ∷ s_box x ∷ [] }
-{
-    T2[x as usize]
-}
-
-// In row 3.
-pub(super) fn row3(x: u8) -> u32
-    ensures { word_bytes result ≡ s_box x ∷ s_box x ∷ mul 3 (s_box x) ∷ mul 2 (s_box x) ∷ [] }
-{
-    T3[x as usize]
+    TABLES[R][x as usize]
 }
 
 // The S-box value of a byte, which stands plain in the tables.
 pub(super) fn sbox(x: u8) -> u8
     ensures { result ≡ s_box x }
 {
-    row0(x).to_be_bytes()[1]
+    row::<0>(x).to_be_bytes()[1]
 }
