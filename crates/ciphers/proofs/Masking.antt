@@ -1,8 +1,8 @@
 -- The counter mode's mask: byte by byte in the definition, block by block in the code.
-use Rattle.std.proofs.Common.{◌≡◌, ℕ, zero, suc, ◌+◌, ◌-◌, ◌*◌, ◌/◌, ◌%◌, ◌^◌, ◌<◌, ◌≤◌, List, [], ◌∷◌, ◌++◌, length, get_or, take, drop, set, sym, refl, ap, ◌∙◌, subst, append_assoc, add-zero, add-suc, suc-add, zero-add, add-one, arith, length-append, length-drop}
+use Rattle.std.proofs.Common.{◌≡◌, ℕ, zero, suc, ◌+◌, ◌-◌, ◌*◌, ◌/◌, ◌%◌, ◌^◌, ◌<◌, ◌≤◌, List, [], ◌∷◌, ◌++◌, length, get_or, take, drop, set, sym, refl, ap, ◌∙◌, append_assoc, add-zero, add-suc, suc-add, zero-add, add-one, arith, length-drop}
 use lib.Bits.{bit_xor, xor_assoc, xor_self, xor_zero_r}
 use borrow.Rule.Slice.PartMut.{put_mid}
-use Rattle.std.proofs.lemmas.List.{take_all, take_at, drop_at, drop_more, drop-drop, length-take-le, get_or-drop, set_at}
+use Rattle.std.proofs.lemmas.List.{append-nil, take_all, take_at, drop_all, drop_at, drop_more, drop-drop, length-take-le, set_at}
 use Rattle.ciphers.specs.Bytes.{xors, bytes}
 use Rattle.ciphers.specs.Rfc4493.{Cipher}
 use Rattle.ciphers.specs.Rfc5297.{counter, key_byte, masked_from, masked, MasksTwice}
@@ -128,24 +128,22 @@ xors-length [] s h = refl
 xors-length (x ∷ u) [] h = absurd (omega arith)
 xors-length (x ∷ u) (y ∷ s) h = ap suc (xors-length u s (omega arith))
 
-pub rest_more : (o t s : List ℕ) (at i : ℕ) → at ≤ i → i < length t → i < length o → length t ≤ at + length s
-    → set (take at o ++ (xors (take (i - at) (drop at t)) s ++ drop i o)) i (bit_xor (get_or t i 0) (get_or s (i - at) 0)) ≡ take at o ++ (xors (take (i + 1 - at) (drop at t)) s ++ drop (i + 1) o)
-rest_more o t s at i low ht ho hs =
-    let n = i - at in
-    let u = drop at t in
-    let lu : length u ≡ length t - at = length-drop at t in
-    let v = bit_xor (get_or t i 0) (get_or s n 0) in
-    let back : at + n ≡ i = omega arith in
-    let la : length (take at o) ≡ at = length-take-le at o (omega arith) in
-    let lx : length (xors (take n u) s) ≡ n =
-    xors-length (take n u) s (subst (λ (k : ℕ). k ≤ length s) (sym (length-take-le n u (omega arith))) (omega arith)) ∙ length-take-le n u (omega arith) in
-    let len : length (take at o ++ xors (take n u) s) ≡ i = length-append (take at o) (xors (take n u) s) ∙ omega arith in
-    let step : i + 1 - at ≡ n + 1 = omega arith in
-    let byte : get_or u n 0 ≡ get_or t i 0 = get_or-drop at t n 0 ∙ ap (λ (k : ℕ). get_or t k 0) back in
-    let more : xors (take (i + 1 - at) u) s ≡ xors (take n u) s ++ (v ∷ []) =
-    ap (λ (k : ℕ). xors (take k u) s) step ∙ (xors_more u s n (omega arith) (omega arith) ∙ ap (λ (x : ℕ). xors (take n u) s ++ (bit_xor x (get_or s n 0) ∷ [])) byte) in
-    ap (λ (l : List ℕ). set (take at o ++ (xors (take n u) s ++ l)) i v) (drop_more o i 0 ho) ∙
-    (ap (λ (l : List ℕ). set l i v) (sym (append_assoc (take at o) (xors (take n u) s) (get_or o i 0 ∷ drop (i + 1) o))) ∙
-    (set_at (take at o ++ xors (take n u) s) (get_or o i 0) (drop (i + 1) o) v i len ∙
-    (append_assoc (take at o) (xors (take n u) s) (v ∷ drop (i + 1) o) ∙
-    ap (λ (l : List ℕ). take at o ++ l) (sym (append_assoc (xors (take n u) s) (v ∷ []) (drop (i + 1) o)) ∙ ap (λ (l : List ℕ). l ++ drop (i + 1) o) (sym more)))))
+pub rest_more : (o t s : List ℕ) (i : ℕ) → i < length t → i < length o → length t ≤ length s
+    → set (xors (take i t) s ++ drop i o) i (bit_xor (get_or t i 0) (get_or s i 0)) ≡ xors (take (i + 1) t) s ++ drop (i + 1) o
+rest_more o t s i ht ho hs =
+    let v = bit_xor (get_or t i 0) (get_or s i 0) in
+    let front : length (take i t) ≡ i = length-take-le i t (omega arith) in
+    let len : length (xors (take i t) s) ≡ i = xors-length (take i t) s (omega arith) ∙ front in
+    ap (λ (l : List ℕ). set (xors (take i t) s ++ l) i v) (drop_more o i 0 ho) ∙
+    (set_at (xors (take i t) s) (get_or o i 0) (drop (i + 1) o) v i len ∙
+    (sym (append_assoc (xors (take i t) s) (v ∷ []) (drop (i + 1) o)) ∙ ap (λ (l : List ℕ). l ++ drop (i + 1) o) (sym (xors_more t s i ht (omega arith)))))
+
+-- a write to the rest of a list, from a place on
+pub written_rest : (a n k : ℕ) (xs ys z : List ℕ) → n ≡ length xs - a → a ≤ length xs → ys ≡ z ++ drop k (take n (drop a xs)) → put_mid a n xs ys ≡ take a xs ++ (z ++ drop (a + k) xs)
+written_rest a n k xs ys z len inside wrote =
+    let all : take n (drop a xs) ≡ drop a xs = take_all n (drop a xs) (omega (arith, length-drop a xs)) in
+    let none : drop (a + n) xs ≡ [] = drop_all (a + n) xs (omega arith) in
+    written a n xs ys ∙
+    (ap (λ (l : List ℕ). take a xs ++ (ys ++ l)) none ∙
+    (ap (λ (l : List ℕ). take a xs ++ l) (append-nil ys ∙ wrote ∙ ap (λ (l : List ℕ). z ++ drop k l) all) ∙
+    ap (λ (l : List ℕ). take a xs ++ (z ++ l)) (drop-drop k a xs)))

@@ -17,22 +17,21 @@ pub(crate) fn stream_block(aes: &Aes128, q: u128, j: usize) -> [u8; 16]
     aes.encrypt(block_of(q.wrapping_add(j as u128)))
 }
 
-// Masks the whole block of `text` at `at` into `out`.
-fn mask_block(stream: [u8; 16], text: &[u8], at: usize, out: &mut [u8])
-    requires { (at + 16 ≤ length text.now) × (at + 16 ≤ length out.old) }
-    ensures { out.new ≡ take at out.old ++ (xors (take 16 (drop at text.now)) stream ++ drop (at + 16) out.old) }
+// Masks the first 16 bytes of `text` into `out`.
+fn mask_block(stream: [u8; 16], text: &[u8], out: &mut [u8])
+    requires { (16 ≤ length text.now) × (16 ≤ length out.old) }
+    ensures { out.new ≡ xors (take 16 text.now) stream ++ drop 16 out.old }
 {
-    let mixed = xor(front(&text[at..]), stream);
-    out[at..at + 16].copy_from_slice(&mixed);
+    out[..16].copy_from_slice(&xor(front(text), stream));
 }
 
-// Masks what is left of `text` from `at` on, less than a block.
-fn mask_rest(stream: [u8; 16], text: &[u8], at: usize, out: &mut [u8])
-    requires { (at ≤ length text.now) × ((length text.now < at + 16) × (length text.now ≤ length out.old)) }
-    ensures { out.new ≡ take at out.old ++ (xors (drop at text.now) stream ++ drop (length text.now) out.old) }
+// Masks less than a block.
+fn mask_rest(stream: [u8; 16], text: &[u8], out: &mut [u8])
+    requires { (length text.now < 16) × (length text.now ≤ length out.old) }
+    ensures { out.new ≡ xors text.now stream ++ drop (length text.now) out.old }
 {
-    for i in at..text.len() {
-        out[i] = text[i] ^ stream[i - at];
+    for (i, byte) in text.iter().enumerate() {
+        out[i] = byte ^ stream[i];
     }
 }
 
@@ -43,9 +42,11 @@ pub(crate) fn mask(aes: &Aes128, q: u128, text: &[u8], out: &mut [u8])
 {
     let whole = text.len() / 16;
     for j in 0..whole {
-        mask_block(stream_block(aes, q, j), text, 16 * j, out);
+        let stream = stream_block(aes, q, j);
+        mask_block(stream, &text[16 * j..], &mut out[16 * j..]);
     }
-    mask_rest(stream_block(aes, q, whole), text, 16 * whole, out);
+    let stream = stream_block(aes, q, whole);
+    mask_rest(stream, &text[16 * whole..], &mut out[16 * whole..]);
 }
 
 // Counter mode of a text of any length, from a counter on. The same call undoes it.
