@@ -74,9 +74,15 @@ key-kept w i y low =
     λ k lt. let ne : k ≢ i = omega arith in ap word_bytes (get_or-set_other w i k y 0 ne) in
     four _ _ _ _ _ _ _ _ (at 0 (omega arith)) (at 1 (omega arith)) (at 2 (omega arith)) (at 3 (omega arith))
 
-pub words-first : (ws : List ℕ) → word_bytes (get_or ws 0 0) ∷ word_bytes (get_or ws 1 0) ∷ word_bytes (get_or ws 2 0) ∷ word_bytes (get_or ws 3 0) ∷ [] ≡ expand 0 (key_words (state_of ws))
+-- four words, and others after them
+pub words_first : (ws zs : List ℕ) → length ws ≡ 4 → (state_of (ws ++ zs) ≡ state_of ws) × (map word_bytes (take 4 (ws ++ zs)) ≡ expand 0 (key_words (state_of (ws ++ zs))))
 unfolding state_of expand
-words-first ws = refl
+words_first (a ∷ b ∷ c ∷ d ∷ []) zs h = (refl, refl)
+words_first [] zs h = absurd (omega arith)
+words_first (a ∷ []) zs h = absurd (omega arith)
+words_first (a ∷ b ∷ []) zs h = absurd (omega arith)
+words_first (a ∷ b ∷ c ∷ []) zs h = absurd (omega arith)
+words_first (a ∷ b ∷ c ∷ d ∷ e ∷ ws) zs h = absurd (omega arith)
 
 pub expanded_all : (w first key : List ℕ) (i : ℕ) → i ≡ 44 → length w ≡ 44 → first ≡ key
     → map word_bytes (take i w) ≡ expand (i - 4) (key_words first) → map word_bytes w ≡ key_expansion key

@@ -41,12 +41,9 @@ pub(super) fn expansion(key: [u8; 16]) -> [u32; 44]
     ensures key { state_of result ≡ key }
     ensures words { map word_bytes result ≡ key_expansion key }
 {
-    let first = load(key);
     let mut w = [0u32; 44];
-    w[0] = first[0];
-    w[1] = first[1];
-    w[2] = first[2];
-    w[3] = first[3];
+    w[..4].copy_from_slice(&load(key));
+    // Each word is made of two before it, so the loop goes by places.
     for i in 4..44 {
         w[i] = w[i - 4] ^ temp(w[i - 1], i);
     }

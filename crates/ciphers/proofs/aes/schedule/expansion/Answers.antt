@@ -1,10 +1,12 @@
-use Rattle.std.proofs.Common.{◌<◌, ◌≤◌, length, refl, ◌∙◌, arith, length-set}
+use Rattle.std.proofs.Common.{◌<◌, ◌≤◌, length, refl, ap, ◌∙◌, arith, length-append, length-set}
 use Rattle.ciphers.specs.Fips197.{state_of}
-use Rattle.ciphers.proofs.Expanding.{grown, key-kept, words-first, expanded_all}
+use Rattle.ciphers.proofs.Expanding.{grown, key-kept, words_first, expanded_all}
 use Rattle.ciphers.proofs.aes.schedule.expansion.Goals as goal
 
 pub loop-i-init : goal.loop-i-init
-loop-i-init c = (refl, refl, words-first _)
+loop-i-init c =
+    let first = c.copy_from_slice.new.self in
+    (length-append first _ ∙ omega (arith, c.copy_from_slice.ensures.len), refl, (words_first first _ c.copy_from_slice.ensures.len).1)
 
 pub loop-i-preserved : goal.loop-i-preserved
 loop-i-preserved c =
@@ -16,7 +18,7 @@ loop-i-preserved c =
 
 -- the first four words are those of the key
 pub returns : goal.returns
-unfolding state_of
 returns c =
-    let key = c.load-first.ensures in
+    let first = c.copy_from_slice.new.self in
+    let key = (words_first first _ c.copy_from_slice.ensures.len).0 ∙ (ap state_of c.copy_from_slice.ensures.after ∙ c.load.ensures) in
     record { key = c.loop-i.invariant.1 ∙ key; words = expanded_all c.loop-i.w _ c.args.key c.loop-i.i (omega arith) c.loop-i.invariant.0 key c.loop-i.invariant.2 }
