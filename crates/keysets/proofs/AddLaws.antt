@@ -8,7 +8,7 @@ use Rattle.encoding.specs.Meanings.{KeyDataMeaning, KeyTemplateMeaning, KeyMeani
 use Rattle.keysets.specs.Adding.{DrawnId, one_more, is_present, drawn_id, key_with, key_of, made_key, Added, added_key, added}
 use Rattle.keysets.specs.Claims.{NoneWith, DistinctIds}
 use Rattle.keysets.specs.Edits.{blank_key, key_at, position_of}
-use Rattle.keysets.specs.Kinds.{prefix_of}
+use Rattle.encoding.specs.Kinds.{prefix_of}
 use Rattle.keysets.specs.Registries.{Managing, found, new_key_data_by, words_by}
 use Rattle.keysets.proofs.Positions.{position-misses}
 

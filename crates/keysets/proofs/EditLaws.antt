@@ -7,7 +7,7 @@ use Rattle.encoding.specs.ListsLemmas.{without-length, without_at}
 use Rattle.encoding.specs.Meanings.{KeyMeaning, KeyDataMeaning, KeysetMeaning}
 use Rattle.keysets.specs.Answering.{Answer}
 use Rattle.keysets.specs.Claims.{FirstWith, Changed, Left, Touched, TouchesOneKey, RefusedChangesNothing, data_of, data_after, OnlyDestroyDropsData, DistinctIds, IdsStayDistinct}
-use Rattle.keysets.specs.Kinds.{status_of}
+use Rattle.encoding.specs.Kinds.{status_of}
 use Rattle.keysets.specs.Edits.{blank_key, key_at, position_of, takes, key_after, keys_after, keyset_after, spared_in, Edited, refused, accepted, edited, key_is_primary, key_not_found, status_bars}
 use Rattle.keysets.specs.declared.manager.Edit.{Edit}
 use Rattle.keysets.specs.declared.manager.Edit.TheVariants.{Enable, Disable, Destroy, Delete, SetPrimary}

@@ -9,7 +9,7 @@ use Rattle.encoding.specs.declared.records.Keyset.{Keyset}
 use Rattle.encoding.specs.Meanings.{KeyMeaning, KeysetMeaning}
 use Rattle.ciphers.specs.declared.fault.Fault.{Fault}
 use Rattle.keysets.specs.Answering.{Answer}
-use Rattle.keysets.specs.Kinds.{status_of}
+use Rattle.encoding.specs.Kinds.{status_of}
 use Rattle.keysets.specs.Edits.{key_at, position_of, takes, key_after, keys_after, primary_after, keyset_after, spared_in, Edited, refused, accepted, edited_at, edited_found, edited, key_is_primary, key_not_found, status_bars}
 use Rattle.keysets.specs.declared.manager.Edit.{Edit}
 use Rattle.keysets.specs.declared.manager.Edit.TheVariants.{Enable, Disable, Destroy, Delete, SetPrimary}

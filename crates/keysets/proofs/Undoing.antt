@@ -5,7 +5,7 @@ use Rattle.encoding.specs.Meanings.{KeyMeaning, KeysetMeaning}
 use Rattle.encoding.specs.Numbers.{status_number}
 use Rattle.encoding.specs.declared.numbers.KeyStatusType.TheVariants.{Enabled, Disabled}
 use Rattle.keysets.specs.Claims.{FirstWith, DisabledAndEnabled}
-use Rattle.keysets.specs.Kinds.{statuses, status_of}
+use Rattle.encoding.specs.Kinds.{statuses, status_of}
 use Rattle.keysets.specs.Edits.{blank_key, key_at, takes, with_status, keyset_after, Edited, accepted, edited}
 use Rattle.keysets.specs.declared.manager.Edit.TheVariants.{Enable, Disable}
 use Rattle.keysets.proofs.Editing.{edited-taken}

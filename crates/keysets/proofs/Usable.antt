@@ -9,7 +9,7 @@ use Rattle.encoding.specs.Meanings.{KeyDataMeaning, KeyTemplateMeaning, KeyMeani
 use Rattle.keysets.specs.declared.registry.Place.{Place}
 use Rattle.keysets.specs.Adding.{DrawnId, drawn_id, new_key, key_with, key_of, made_key, Added, added_key, added}
 use Rattle.keysets.specs.Answering.{only_if, at_place}
-use Rattle.keysets.specs.Kinds.{prefix_of, material_of}
+use Rattle.encoding.specs.Kinds.{prefix_of, material_of}
 use Rattle.keysets.specs.Managers.{Maker, KeyMaker, Making, made, barred, dry, Lawful, KeepsLaws, key_data_answer, primitive_answer}
 use Rattle.keysets.specs.Registries.{Managing, registered, found, new_key_data_by, primitive_by}
 use Rattle.keysets.specs.Running.{once, prefix_tested, key_primitive, placed_primitive, NewKeyUsable}

@@ -5,7 +5,7 @@ use Rattle.ciphers.specs.declared.fault.Fault.{Fault}
 use Rattle.encoding.specs.Meanings.{KeyMeaning}
 use Rattle.keysets.specs.Answering.{Answer, only_if, at_place}
 use Rattle.keysets.specs.Edits.{key_at}
-use Rattle.keysets.specs.Kinds.{prefix_of}
+use Rattle.encoding.specs.Kinds.{prefix_of}
 use Rattle.keysets.specs.Validation.{valid_key, enabled_key, primary_key, not_public_key, placed_from, any_key, not_second, valid_keys, valid_among, valid}
 use Rattle.keysets.specs.Validity.{ValidKey, OnePrimary, SomePrimary, AllPublic, Valid, AcceptsTheValid}
 use Rattle.keysets.proofs.Answers.{held, both_ok, ok_both, only_ok, place_ok, ok_place}

@@ -9,7 +9,7 @@ use Rattle.encoding.specs.Meanings.{KeyDataMeaning, KeyTemplateMeaning, KeyMeani
 use Rattle.encoding.specs.Numbers.{status_number}
 use Rattle.encoding.specs.declared.numbers.KeyStatusType.TheVariants.{Enabled}
 use Rattle.keysets.specs.Edits.{position_of}
-use Rattle.keysets.specs.Kinds.{prefix_of}
+use Rattle.encoding.specs.Kinds.{prefix_of}
 use Rattle.keysets.specs.Registries.{Managing, found, new_key_data_by, words_by}
 
 -- an id that was drawn, and how many words it took

@@ -7,7 +7,7 @@ use Rattle.encoding.specs.Meanings.{KeyMeaning, KeyDataMeaning, KeysetMeaning}
 use Rattle.encoding.specs.declared.numbers.KeyStatusType.{KeyStatusType}
 use Rattle.encoding.specs.declared.numbers.KeyStatusType.TheVariants.{Enabled, Disabled, Destroyed}
 use Rattle.keysets.specs.Answering.{Answer, only_if, at_place, and_then}
-use Rattle.keysets.specs.Kinds.{status_of, material_of}
+use Rattle.encoding.specs.Kinds.{status_of, material_of}
 
 abbrev pub is_destroyed : Option KeyStatusType → Bool
 is_destroyed None = false

@@ -3,7 +3,7 @@ use Rattle.std.specs.Prelude.{◌≡◌, ℕ, ◌+◌, ◌<◌, ◌≤◌, List,
 use Rattle.ciphers.specs.declared.fault.Fault.{Fault}
 use Rattle.encoding.specs.Meanings.{KeyMeaning, KeyDataMeaning, KeysetMeaning}
 use Rattle.encoding.specs.declared.numbers.KeyStatusType.TheVariants.{Enabled}
-use Rattle.keysets.specs.Kinds.{status_of}
+use Rattle.encoding.specs.Kinds.{status_of}
 use Rattle.keysets.specs.Edits.{key_at, position_of, key_after, primary_after, accepted, edited}
 use Rattle.keysets.specs.declared.manager.Edit.{Edit}
 use Rattle.keysets.specs.declared.manager.Edit.TheVariants.{Enable, Disable, Destroy, Delete, SetPrimary}

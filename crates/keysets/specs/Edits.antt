@@ -10,7 +10,7 @@ use Rattle.encoding.specs.Numbers.{status_number}
 use Rattle.encoding.specs.declared.numbers.KeyStatusType.{KeyStatusType}
 use Rattle.encoding.specs.declared.numbers.KeyStatusType.TheVariants.{Enabled, Disabled, Destroyed}
 use Rattle.keysets.specs.Answering.{Answer}
-use Rattle.keysets.specs.Kinds.{status_of}
+use Rattle.encoding.specs.Kinds.{status_of}
 use Rattle.keysets.specs.declared.manager.Edit.{Edit}
 use Rattle.keysets.specs.declared.manager.Edit.TheVariants.{Enable, Disable, Destroy, Delete, SetPrimary}
 

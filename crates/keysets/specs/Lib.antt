@@ -1,4 +1,3 @@
-pub mod Kinds
 pub mod Answering
 pub mod Edits
 pub mod Reading

@@ -10,7 +10,7 @@ use Rattle.encoding.specs.Meanings.{KeyDataMeaning, KeyMeaning, KeysetMeaning}
 use Rattle.keysets.specs.Answering.{Answer, at_place}
 use Rattle.keysets.specs.Checks.{checked_key}
 use Rattle.keysets.specs.Edits.{key_not_found}
-use Rattle.keysets.specs.Kinds.{prefix_of}
+use Rattle.encoding.specs.Kinds.{prefix_of}
 use Rattle.keysets.specs.Registries.{Managing, found, primitive_by}
 
 -- an answer once a test was passed

@@ -8,7 +8,7 @@ use Rattle.encoding.specs.Meanings.{KeyMeaning, KeyDataMeaning, KeysetMeaning}
 use Rattle.encoding.specs.declared.numbers.KeyMaterialType.{KeyMaterialType}
 use Rattle.encoding.specs.declared.numbers.KeyMaterialType.TheVariants.{UnknownKeymaterial, Symmetric, AsymmetricPrivate, AsymmetricPublic, Remote}
 use Rattle.keysets.specs.Answering.{Answer, only_if, at_place, and_then}
-use Rattle.keysets.specs.Kinds.{status_of, prefix_of, material_of}
+use Rattle.encoding.specs.Kinds.{status_of, prefix_of, material_of}
 use Rattle.keysets.specs.Edits.{is_enabled}
 
 abbrev pub version_too_high : Fault

@@ -5,7 +5,7 @@ use Rattle.encoding.specs.Meanings.{KeyMeaning, KeysetMeaning}
 use Rattle.keysets.specs.Answering.{at_place}
 use Rattle.keysets.specs.Checks.{checked_key, checked}
 use Rattle.keysets.specs.Edits.{key_at}
-use Rattle.keysets.specs.Kinds.{status_of, prefix_of}
+use Rattle.encoding.specs.Kinds.{status_of, prefix_of}
 use Rattle.keysets.specs.Validation.{enabled_key, primary_key, not_public_key, valid}
 
 pub record ValidKey (k : KeyMeaning) : Type 0 where

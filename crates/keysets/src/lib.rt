@@ -4,8 +4,6 @@
 
 pub mod check;
 pub mod claims;
-pub mod kinds;
 pub mod manager;
-mod places;
 pub mod registry;
 pub mod validation;

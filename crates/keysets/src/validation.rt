@@ -5,10 +5,8 @@ ghost use Rattle.keysets.specs.Answering.{only_if, giving};
 ghost use Rattle.keysets.specs.Validation.{version_too_high, valid_key, enabled_key, not_public_key, not_second, valid_whole, valid};
 ghost use Rattle.keysets.specs.Seeing.{seen_after};
 
-use crate::kinds::{material_of, prefix_of, status_of};
-use crate::places::at_place;
 use ciphers::fault::{Fault, Layer, Refusal};
-use encoding::numbers::{KeyMaterialType, KeyStatusType};
+use encoding::numbers::{KeyMaterialType, KeyStatusType, OutputPrefixType};
 use encoding::records::{Key, KeyId, Keyset};
 
 // What the keys gone through had.
@@ -39,10 +37,10 @@ pub fn validate_key(key: &Key) -> Result<(), Fault>
     if key.key_data.is_none() {
         return Err(Fault::new(Refusal::NoKeyData, Layer::Validation));
     }
-    if prefix_of(key.output_prefix_type).is_none() {
+    if OutputPrefixType::try_from(key.output_prefix_type).is_err() {
         return Err(Fault::new(Refusal::UnknownPrefixType, Layer::Validation));
     }
-    if status_of(key.status).is_none() {
+    if KeyStatusType::try_from(key.status).is_err() {
         return Err(Fault::new(Refusal::UnknownStatus, Layer::Validation));
     }
     Ok(())
@@ -63,8 +61,8 @@ pub fn validate(keyset: &Keyset) -> Result<(), Fault>
         some_not_public: false,
     };
     for (i, key) in keys.iter().enumerate() {
-        at_place(validate_key(key), i)?;
-        seen = at_place(seen.after(key, primary), i)?;
+        validate_key(key).map_err(|fault| fault.at(i))?;
+        seen = seen.after(key, primary).map_err(|fault| fault.at(i))?;
     }
     seen.conclude()
 }
@@ -72,10 +70,7 @@ pub fn validate(keyset: &Keyset) -> Result<(), Fault>
 fn is_enabled(key: &Key) -> bool
     ensures { result ≡ enabled_key (key_view key.now) }
 {
-    match status_of(key.status) {
-        Some(KeyStatusType::Enabled) => true,
-        _ => false,
-    }
+    KeyStatusType::try_from(key.status) == Ok(KeyStatusType::Enabled)
 }
 
 // Whether the key is Enabled with material other than public.
@@ -88,10 +83,7 @@ fn is_not_public(key: &Key) -> bool
     let Some(data) = key.key_data else {
         return false;
     };
-    match material_of(data.key_material_type) {
-        Some(KeyMaterialType::AsymmetricPublic) => false,
-        _ => true,
-    }
+    KeyMaterialType::try_from(data.key_material_type) != Ok(KeyMaterialType::AsymmetricPublic)
 }
 
 impl Seen {

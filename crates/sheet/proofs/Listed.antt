@@ -4,7 +4,7 @@ use Rattle.std.specs.Option.{option_map}
 use Rattle.std.proofs.lemmas.List.{append-nil}
 use Rattle.encoding.specs.Lists.{item}
 use Rattle.encoding.specs.Meanings.{KeyMeaning}
-use Rattle.keysets.specs.Kinds.{status_of, prefix_of}
+use Rattle.encoding.specs.Kinds.{status_of, prefix_of}
 use Rattle.sheet.specs.Rows.{status_text, prefix_text, mark_text, row, rows, row_of}
 
 -- the row of a key, by what was read of it

@@ -5,7 +5,7 @@ use Rattle.encoding.specs.declared.numbers.KeyStatusType.{KeyStatusType}
 use Rattle.encoding.specs.declared.numbers.KeyStatusType.TheVariants.{Enabled, Disabled, Destroyed}
 use Rattle.encoding.specs.declared.numbers.OutputPrefixType.{OutputPrefixType}
 use Rattle.encoding.specs.declared.numbers.OutputPrefixType.TheVariants.{Tink, Legacy, Raw, Crunchy}
-use Rattle.keysets.specs.Kinds.{status_of, prefix_of}
+use Rattle.encoding.specs.Kinds.{status_of, prefix_of}
 
 abbrev pub status_text : Option KeyStatusType → List ℕ
 status_text (Some Enabled) = codes "Enabled"

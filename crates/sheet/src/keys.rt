@@ -1,7 +1,7 @@
 // A keyset as lines of text, key by key: ids, statuses and prefix types, and which id is primary. No key bytes.
 ghost use Rattle.std.specs.Prelude.{◌≡◌, IfOk, string_bytes};
 ghost use Rattle.encoding.specs.Lists.{item};
-ghost use Rattle.keysets.specs.Kinds.{status_of, prefix_of};
+ghost use Rattle.encoding.specs.Kinds.{status_of, prefix_of};
 ghost use Rattle.keysets.specs.Reading.{managed};
 ghost use Rattle.sheet.specs.Rows.{status_text, prefix_text, mark_text, row as row_text, row_of, sheet_of};
 

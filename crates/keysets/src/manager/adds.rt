@@ -7,13 +7,12 @@ ghost use Rattle.keysets.specs.Registries.{registered as registered_in};
 ghost use Rattle.keysets.specs.Running.{NewKeyUsable};
 ghost use Rattle.keysets.specs.Adding.{is_present, drawn_id, id_answer, words_after_id, made_key, words_made, with_key, added};
 
-use crate::kinds::prefix_of;
 use crate::manager::Manager;
 use crate::registry::Registry;
 use crate::registry::key_manager::KeyManager;
 use ciphers::draws::Draws;
 use ciphers::fault::{Fault, Layer, Refusal};
-use encoding::numbers::KeyStatusType;
+use encoding::numbers::{KeyStatusType, OutputPrefixType};
 use encoding::records::{Key, KeyId, KeyTemplate};
 
 impl Manager {
@@ -51,12 +50,12 @@ impl Manager {
     {
         let key_data = registry.new_key_data(kt, words)?;
         let (key_id, _taken) = self.new_key_id(words)?;
-        if prefix_of(kt.output_prefix_type).is_none() {
+        if OutputPrefixType::try_from(kt.output_prefix_type).is_err() {
             return Err(Fault::new(Refusal::UnknownPrefixType, Layer::Manager));
         }
         Ok(Key {
             key_data: Some(key_data),
-            status: KeyStatusType::Enabled.number(),
+            status: KeyStatusType::Enabled.into(),
             key_id,
             output_prefix_type: kt.output_prefix_type,
         })

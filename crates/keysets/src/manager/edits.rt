@@ -4,10 +4,9 @@ ghost use Rattle.std.specs.Prelude.{◌≡◌, not, if◌then◌else◌, Some, N
 ghost use Rattle.encoding.specs.Lists.{list};
 ghost use Rattle.encoding.specs.Views.{key_view, keyset_view};
 ghost use Rattle.keysets.specs.Answering.{only_if};
-ghost use Rattle.keysets.specs.Kinds.{status_of};
+ghost use Rattle.encoding.specs.Kinds.{status_of};
 ghost use Rattle.keysets.specs.Edits.{position_of, key_at, takes, spares_primary, spared_in, key_after, keys_after, primary_after, key_is_primary, key_not_found, status_bars, edited};
 
-use crate::kinds::status_of;
 use crate::manager::{Edit, Manager, blank_key};
 use ciphers::fault::{Fault, Layer, Refusal};
 use encoding::numbers::KeyStatusType;
@@ -37,18 +36,18 @@ fn edit_key(key: &mut Key, edit: Edit, at: usize) -> Result<(), Fault>
     ensures after { key_view key.new ≡ (if takes edit (status_of key.old.status) then key_after edit (key_view key.old) else key_view key.old) }
     ensures value { result ≡ only_if (takes edit (status_of key.old.status)) (status_bars at) }
 {
-    match (status_of(key.status), edit) {
-        (Some(KeyStatusType::Enabled | KeyStatusType::Disabled), Edit::Enable) => {
-            key.status = KeyStatusType::Enabled.number();
+    match (KeyStatusType::try_from(key.status), edit) {
+        (Ok(KeyStatusType::Enabled | KeyStatusType::Disabled), Edit::Enable) => {
+            key.status = KeyStatusType::Enabled.into();
         }
-        (Some(KeyStatusType::Enabled | KeyStatusType::Disabled), Edit::Disable) => {
-            key.status = KeyStatusType::Disabled.number();
+        (Ok(KeyStatusType::Enabled | KeyStatusType::Disabled), Edit::Disable) => {
+            key.status = KeyStatusType::Disabled.into();
         }
-        (Some(_), Edit::Destroy) => {
-            key.status = KeyStatusType::Destroyed.number();
+        (Ok(_), Edit::Destroy) => {
+            key.status = KeyStatusType::Destroyed.into();
             key.key_data = None;
         }
-        (_, Edit::Delete) | (Some(KeyStatusType::Enabled), Edit::SetPrimary) => {}
+        (_, Edit::Delete) | (Ok(KeyStatusType::Enabled), Edit::SetPrimary) => {}
         _ => return Err(Fault::new(Refusal::StatusBars, Layer::Manager).at(at)),
     }
     Ok(())

@@ -5,12 +5,11 @@ ghost use Rattle.keysets.specs.Registries.{registered as registered_in};
 ghost use Rattle.keysets.specs.Running.{key_primitive, primitive_at};
 
 use crate::check::check_key;
-use crate::kinds::prefix_of;
 use crate::manager::Manager;
-use crate::places::at_place;
 use crate::registry::Registry;
 use crate::registry::key_manager::KeyManager;
 use ciphers::fault::{Fault, Layer, Refusal};
+use encoding::numbers::OutputPrefixType;
 use encoding::records::Key;
 
 // The check of handles and saves, then the registry, then the prefix type.
@@ -20,11 +19,10 @@ where
     ensures { result ≡ key_primitive (registered_in M.Primitives.maker M.KeyMaking.keys registry.now.bank.now) (key_view key.now) }
 {
     check_key(key)?;
-    let Some(key_data) = key.key_data else {
-        return Err(Fault::new(Refusal::NoKeyData, Layer::Handle));
-    };
+    let no_data = Fault::new(Refusal::NoKeyData, Layer::Handle);
+    let key_data = key.key_data.ok_or(no_data)?;
     let primitive = registry.primitive_from_key_data(&key_data)?;
-    if prefix_of(key.output_prefix_type).is_none() {
+    if OutputPrefixType::try_from(key.output_prefix_type).is_err() {
         return Err(Fault::new(Refusal::UnknownPrefixType, Layer::Manager));
     }
     Ok(primitive)
@@ -41,9 +39,8 @@ impl Manager {
         M::Primitive: Drop,
         ensures { result ≡ primitive_at (registered_in M.Primitives.maker M.KeyMaking.keys registry.now.bank.now) at (keyset_view self.now.ks) }
     {
-        let Some(key) = self.key_at(at) else {
-            return Err(Fault::new(Refusal::KeyNotFound, Layer::Manager));
-        };
-        at_place(make_primitive(registry, &key), at)
+        let no_key = Fault::new(Refusal::KeyNotFound, Layer::Manager);
+        let key = self.key_at(at).ok_or(no_key)?;
+        make_primitive(registry, &key).map_err(|fault| fault.at(at))
     }
 }

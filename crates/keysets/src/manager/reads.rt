@@ -10,7 +10,6 @@ ghost use Rattle.keysets.specs.Validation.{valid};
 ghost use Rattle.keysets.specs.Reading.{id_at, status_at, prefix_at};
 
 use crate::manager::Manager;
-use crate::registry::key_manager::same;
 use crate::validation::validate;
 use ciphers::fault::Fault;
 use encoding::message::write;
@@ -50,7 +49,7 @@ impl Manager {
     {
         let mut out = [0u8; 3878];
         match write(&self.ks, &mut out) {
-            Ok(len) => same(&out[..len], bytes),
+            Ok(len) => &out[..len] == bytes,
             Err(_) => false,
         }
     }

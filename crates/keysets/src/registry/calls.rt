@@ -39,10 +39,9 @@ impl<'a, M: KeyManager> Registry<'a, M> {
             (λ m. found type_url.now (registered_in M.Primitives.maker M.KeyMaking.keys self.now.bank.now) ≡ Some (record { maker = M.Primitives.maker m.now; keys = M.KeyMaking.keys m.now }))
             (λ f. (f ≡ unknown) × (found type_url.now (registered_in M.Primitives.maker M.KeyMaking.keys self.now.bank.now) ≡ None)) }
     {
-        let bank = &*self.bank;
-        for i in 0..bank.len() {
-            if bank[i].registered && bank[i].manager.does_support(type_url) {
-                return Ok(&bank[i].manager);
+        for place in &*self.bank {
+            if place.registered && place.manager.does_support(type_url) {
+                return Ok(&place.manager);
             }
         }
         Err(Fault::new(Refusal::NotRegistered, Layer::Registry))
@@ -51,10 +50,7 @@ impl<'a, M: KeyManager> Registry<'a, M> {
     fn is_registered(&self, type_url: &[u8]) -> bool
         ensures { result ≡ is_some (found type_url.now (registered_in M.Primitives.maker M.KeyMaking.keys self.now.bank.now)) }
     {
-        match self.get_key_manager(type_url) {
-            Ok(_manager) => true,
-            Err(_fault) => false,
-        }
+        self.get_key_manager(type_url).is_ok()
     }
 
     // Whether the type of the manager at a place is registered, by it or by another.
@@ -104,7 +100,7 @@ impl<'a, M: KeyManager> Registry<'a, M> {
     pub fn primitive(&self, type_url: &[u8], sk: &[u8]) -> Result<M::Primitive, Fault>
         ensures { result ≡ primitive_by (found type_url.now (registered_in M.Primitives.maker M.KeyMaking.keys self.now.bank.now)) sk.now }
     {
-        if sk.len() == 0 {
+        if sk.is_empty() {
             return Err(Fault::new(Refusal::EmptyValue, Layer::Registry));
         }
         self.get_key_manager(type_url)?.primitive(sk)

@@ -50,7 +50,7 @@ pub trait KeyManager: KeyMaking {
     fn does_support(&self, type_url: &[u8]) -> bool
         ensures { result ≡ bytes_eq type_url.now (Self.Primitives.maker self.now).type_url }
     {
-        same(type_url, self.type_url())
+        type_url == self.type_url()
     }
 
     // A new key with its type and material.
@@ -67,14 +67,7 @@ pub trait KeyManager: KeyMaking {
         Ok(KeyData {
             type_url,
             value,
-            key_material_type: self.key_material_type().number(),
+            key_material_type: self.key_material_type().into(),
         })
     }
-}
-
-// Whether two byte rows are the same.
-pub(crate) fn same(a: &[u8], b: &[u8]) -> bool
-    ensures { result ≡ bytes_eq a.now b.now }
-{
-    a == b
 }

@@ -4,4 +4,4 @@ use Rattle.keysets.specs.Checks.{checked_key, each_key}
 use Rattle.keysets.proofs.check.check.Given as goal
 
 abbrev pub invariant-loop-i : goal.invariant-loop-i
-invariant-loop-i l = each_key checked_key l.i (drop l.i (map key_view l.keys)) ≡ each_key checked_key 0 (map key_view l.keys)
+invariant-loop-i l = each_key checked_key l.i-counter (drop l.i-counter (map key_view l.key-items)) ≡ each_key checked_key 0 (map key_view l.key-items)

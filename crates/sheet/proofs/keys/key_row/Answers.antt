@@ -1,6 +1,6 @@
 use Rattle.std.proofs.Common.{◌≡◌, ℕ, List, IfOk, string_bytes, subst, w32, SFits}
 use Rattle.std.proofs.lemmas.Int.{to_z-of_z}
-use Rattle.keysets.specs.Kinds.{status_of, prefix_of}
+use Rattle.encoding.specs.Kinds.{status_of, prefix_of}
 use Rattle.sheet.specs.Rows.{status_text, prefix_text, row}
 use Rattle.sheet.proofs.keys.key_row.Goals as goal
 

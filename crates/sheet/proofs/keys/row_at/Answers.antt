@@ -1,7 +1,7 @@
 use Rattle.std.proofs.Common.{◌≡◌, ℕ, eqb, List, IfOk, string_bytes, ap, ◌∙◌, subst, w32, SFits, rules}
 use Rattle.std.proofs.lemmas.Int.{to_z-of_z}
 use Rattle.encoding.specs.Lists.{item}
-use Rattle.keysets.specs.Kinds.{status_of, prefix_of}
+use Rattle.encoding.specs.Kinds.{status_of, prefix_of}
 use Rattle.keysets.specs.Reading.{managed}
 use Rattle.sheet.specs.Rows.{status_text, prefix_text, mark_text, row}
 use Rattle.sheet.proofs.Listed.{row_is}

@@ -3,7 +3,7 @@ use Rattle.std.proofs.lemmas.Result.{err_from_is_err_and}
 use Rattle.std.proofs.lemmas.Bool.{not-true, not-false, cond-true}
 use Rattle.encoding.specs.Meanings.{KeyMeaning}
 use Rattle.encoding.specs.Views.{keyset_view}
-use Rattle.keysets.specs.Kinds.{status_of}
+use Rattle.encoding.specs.Kinds.{status_of}
 use Rattle.keysets.specs.Edits.{takes, key_after, keyset_after}
 use Rattle.keysets.proofs.Answers.{held, failed}
 use Rattle.keysets.proofs.Editing.{edited_spared, edited_missing, edited-barred, edited-taken, as_refused, as_accepted, keyset_viewed}

@@ -9,12 +9,12 @@ use Rattle.keysets.proofs.manager.Manager.has_encoding.Goals as goal
 pub slice_bounds-out-end : goal.slice_bounds-out-end
 slice_bounds-out-end c = wrote-within _ _ _ _ c.in-Ok.ensures
 
-pub slice_bounds-same-end : goal.slice_bounds-same-end
-slice_bounds-same-end c = sym (length-take-le _ _ (wrote-within _ _ _ _ c.in-Ok.ensures))
+pub slice_bounds-eq-end : goal.slice_bounds-eq-end
+slice_bounds-eq-end c = sym (length-take-le _ _ (wrote-within _ _ _ _ c.in-Ok.ensures))
 
 pub returns-in-Ok : goal.returns-in-Ok
 unfolding fields_of_keyset
-returns-in-Ok c = c.same.ensures ∙ ap (λ (l : List ℕ). bytes_eq l c.args.bytes.now) (wrote-front _ _ _ _ c.in-Ok.ensures)
+returns-in-Ok c = c.eq.ensures ∙ ap (λ (l : List ℕ). bytes_eq l c.args.bytes.now) (wrote-front _ _ _ _ c.in-Ok.ensures)
 
 pub returns-in-Err : goal.returns-in-Err
 unfolding fields_of_keyset
