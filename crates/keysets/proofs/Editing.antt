@@ -1,5 +1,5 @@
 -- The four ways in which an edit ends.
-use Rattle.std.proofs.Common.{◌≡◌, ℕ, ◌+◌, true, false, List, map, take, drop, Some, None, Ok, Err, sym, refl, ap, ◌∙◌}
+use Rattle.std.proofs.Common.{◌≡◌, ℕ, ◌+◌, true, false, ◌⊎◌, List, map, take, drop, set, Some, None, Ok, Err, inl, inr, sym, refl, ap, ◌∙◌, arith}
 use Rattle.std.proofs.lemmas.Bool.{cond-true, cond-false}
 use Rattle.std.proofs.lemmas.List.{map-set, map-append, take-map, drop-map}
 use Rattle.encoding.specs.Lists.{list}
@@ -58,3 +58,15 @@ pub keyset_viewed : (e : Edit) (id i : ℕ) (k : Key) (old new : Keyset) → lis
 keyset_viewed e id i k old new keys primary =
     ap (λ (n : ℕ). record { primary_key_id = n; keys = map key_view (list new.key) }) primary
     ∙ ap (λ (ks : List KeyMeaning). record { primary_key_id = primary_after e id old.primary_key_id; keys = ks }) (ap (map key_view) keys ∙ keys_viewed key_view e i k (list old.key))
+
+-- the edits that change the key where it stands
+pub changes_in_place : {K : Type 0} (e : Edit) (id i p : ℕ) (k : K) (ks : List K) → (e ≡ Enable) ⊎ ((e ≡ Disable) ⊎ (e ≡ Destroy)) → (keys_after e i k ks ≡ set ks i k) × (primary_after e id p ≡ p)
+changes_in_place Enable id i p k ks w = (refl, refl)
+changes_in_place Disable id i p k ks w = (refl, refl)
+changes_in_place Destroy id i p k ks w = (refl, refl)
+changes_in_place Delete id i p k ks (inl e) = absurd (let z : ◌≡◌ {A = ℕ} 0 1 = cc in omega arith)
+changes_in_place Delete id i p k ks (inr (inl e)) = absurd (let z : ◌≡◌ {A = ℕ} 0 1 = cc in omega arith)
+changes_in_place Delete id i p k ks (inr (inr e)) = absurd (let z : ◌≡◌ {A = ℕ} 0 1 = cc in omega arith)
+changes_in_place SetPrimary id i p k ks (inl e) = absurd (let z : ◌≡◌ {A = ℕ} 0 1 = cc in omega arith)
+changes_in_place SetPrimary id i p k ks (inr (inl e)) = absurd (let z : ◌≡◌ {A = ℕ} 0 1 = cc in omega arith)
+changes_in_place SetPrimary id i p k ks (inr (inr e)) = absurd (let z : ◌≡◌ {A = ℕ} 0 1 = cc in omega arith)

@@ -1,5 +1,5 @@
 -- What adding a key makes of a keyset and of the words left in a source, and what it answers.
-use Rattle.std.specs.Prelude.{ℕ, suc, min, Bool, cond, List, [], ◌∷◌, ◌++◌, length, drop, is_some, Some, None, Ok, Err, Option, Result, nat_le}
+use Rattle.std.specs.Prelude.{◌≡◌, ℕ, suc, min, Bool, cond, List, [], ◌∷◌, ◌++◌, length, drop, is_some, Some, None, Ok, Err, Option, Result, nat_le}
 use Rattle.std.specs.Option.{option_map}
 use Rattle.ciphers.specs.Faults.{fault}
 use Rattle.ciphers.specs.declared.fault.Fault.{Fault}
@@ -89,3 +89,9 @@ counted n = min n 18446744073709551615
 abbrev pub id_answer : Option DrawnId → Result (ℕ × ℕ) Fault
 id_answer None = Err (fault NoWordLeft Draws)
 id_answer (Some d) = Ok (d.id, counted d.taken)
+
+-- a call that adds a key: the keyset after it, the words left, and what it answers
+pub record Adds {P : Type 0} (ms : List (Managing P)) (t : KeyTemplateMeaning) (as_primary : Bool) (old new : KeysetMeaning) (before after : List ℕ) (answer : Result ℕ Fault) : Type 0 where
+  pub keyset : new ≡ (added ms t as_primary old before).keyset
+  pub words : after ≡ (added ms t as_primary old before).words
+  pub value : answer ≡ (added ms t as_primary old before).answer

@@ -1,5 +1,5 @@
 -- What an edit makes of a keyset, and what it answers.
-use Rattle.std.specs.Prelude.{ℕ, suc, ◌+◌, Bool, true, false, cond, ◌&&◌, List, [], ◌∷◌, ◌++◌, take, drop, pos, is_some, Some, None, Ok, Err, Option, ◌==◌, slice_index_or, slice_set}
+use Rattle.std.specs.Prelude.{◌≡◌, ℕ, suc, ◌+◌, Bool, true, false, cond, ◌&&◌, List, [], ◌∷◌, ◌++◌, take, drop, pos, is_some, Some, None, Ok, Err, Option, ◌==◌, slice_index_or, slice_set}
 use Rattle.std.specs.Option.{option_map}
 use Rattle.ciphers.specs.Faults.{fault, placed}
 use Rattle.ciphers.specs.declared.fault.Fault.{Fault}
@@ -131,3 +131,8 @@ spared_in e id s = spares_primary e && s.primary_key_id == id
 -- an edit of the first key with an id
 unfoldable pub edited : Edit → ℕ → KeysetMeaning → Edited
 edited e id s = cond (spared_in e id s) (refused s key_is_primary) (edited_found e id s (position_of id s.keys))
+
+-- a call that edits: the keyset after it, and what it answers
+pub record Edits (e : Edit) (id : ℕ) (old new : KeysetMeaning) (answer : Answer) : Type 0 where
+  pub after : new ≡ (edited e id old).keyset
+  pub value : answer ≡ (edited e id old).answer

@@ -1,13 +1,8 @@
--- The keyset that a manager holds, and what may be read of the key at a position, if the keyset reaches so far.
+-- What may be read of the key at a position, if the keyset reaches so far.
 use Rattle.std.specs.Prelude.{ℕ, ℤ, Option}
 use Rattle.std.specs.Option.{option_map}
 use Rattle.encoding.specs.Lists.{item}
 use Rattle.encoding.specs.Meanings.{KeyMeaning, KeysetMeaning}
-use Rattle.encoding.specs.Views.{keyset_view}
-use Rattle.keysets.specs.declared.manager.Manager.{Manager}
-
-abbrev pub managed : Manager → KeysetMeaning
-managed m = keyset_view m.ks
 
 abbrev pub id_at : ℕ → KeysetMeaning → Option ℕ
 id_at i s = option_map (λ (k : KeyMeaning). k.key_id) (item s.keys i)

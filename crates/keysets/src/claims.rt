@@ -63,7 +63,7 @@ pub fn checks_go_in_order() -> bool
 // A manager's type URL is within the limits, its material is 0 to 4, and a key that it makes has 1 to 128 bytes, took words
 // that were there, and gives a primitive. This holds of each manager, and so of the two that are here.
 pub fn key_managers_keep_their_laws<M: KeyManager>(manager: &M) -> bool
-    ensures { KeepsLaws (M.Primitives.maker manager.now) (M.KeyMaking.keys manager.now) }
+    ensures { KeepsLaws (M.maker manager.now) (M.keys manager.now) }
 {
     true
 }

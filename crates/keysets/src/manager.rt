@@ -4,12 +4,11 @@ ghost use Rattle.encoding.specs.Views.{key_view, keyset_view};
 ghost use Rattle.keysets.specs.Answering.{giving};
 ghost use Rattle.keysets.specs.Checks.{checked};
 ghost use Rattle.keysets.specs.Edits.{empty_keyset, blank_key};
-ghost use Rattle.keysets.specs.Managers.{answered};
-ghost use Rattle.keysets.specs.Reading.{managed};
 
 use crate::check::check;
 use ciphers::fault::Fault;
 use encoding::records::{Key, Keyset};
+use std::marker::Model;
 
 mod adds;
 mod edits;
@@ -19,6 +18,16 @@ mod reads;
 #[derive(Drop)]
 pub struct Manager {
     ks: Keyset,
+}
+
+// A manager is seen as what its keyset means.
+impl Model for Manager {
+    ghost use Rattle.encoding.specs.Meanings.{KeysetMeaning};
+    ghost use Rattle.encoding.specs.Views.{keyset_view};
+
+    ghost Value = { KeysetMeaning };
+
+    ghost view = { λ m. keyset_view m.ks };
 }
 
 // The edits, each of the first key with an id.
@@ -34,21 +43,21 @@ pub enum Edit {
 impl Manager {
     // A manager of the keyset with no key.
     pub fn new() -> Manager
-        ensures { keyset_view result.ks ≡ empty_keyset }
+        ensures { result ≡ empty_keyset }
     {
         Manager { ks: Keyset::new() }
     }
 
     // A manager of a keyset that passes the check, as one of another make that was decoded.
     pub fn from_keyset(ks: &Keyset) -> Result<Manager, Fault>
-        ensures { answered managed result ≡ giving (keyset_view ks.now) (checked (keyset_view ks.now)) }
+        ensures { result ≡ giving (keyset_view ks.now) (checked (keyset_view ks.now)) }
     {
         check(ks)?;
         Ok(Manager { ks: *ks })
     }
 
     pub fn key_count(&self) -> usize
-        ensures { result ≡ length (keyset_view self.now.ks).keys }
+        ensures { result ≡ length self.now.keys }
     {
         self.ks.key.len()
     }

@@ -1,11 +1,11 @@
 // New keys: the registry makes the data, an id is drawn from the same source, and the key goes to the end.
 ghost use Rattle.std.specs.Prelude.{◌≡◌, ◌<◌, true, length};
-ghost use Rattle.encoding.specs.Views.{key_view, key_template_view, keyset_view};
+ghost use Rattle.encoding.specs.Views.{key_view, key_template_view};
 ghost use Rattle.keysets.specs.Claims.{DistinctIds};
 ghost use Rattle.keysets.specs.Managers.{answered};
-ghost use Rattle.keysets.specs.Registries.{registered as registered_in};
+ghost use Rattle.keysets.specs.Registries.{managers};
 ghost use Rattle.keysets.specs.Running.{NewKeyUsable};
-ghost use Rattle.keysets.specs.Adding.{is_present, drawn_id, id_answer, words_after_id, made_key, words_made, with_key, added};
+ghost use Rattle.keysets.specs.Adding.{is_present, drawn_id, id_answer, words_after_id, made_key, words_made, with_key, Adds};
 
 use crate::manager::Manager;
 use crate::registry::Registry;
@@ -18,15 +18,15 @@ use encoding::records::{Key, KeyId, KeyTemplate};
 impl Manager {
     // Whether a key has an id.
     fn is_present(&self, id: KeyId) -> bool
-        ensures { result ≡ is_present id (keyset_view self.now.ks).keys }
+        ensures { result ≡ is_present id self.now.keys }
     {
         self.find(id).is_ok()
     }
 
     // The first word drawn that is the id of no key, and how many words that took.
     fn new_key_id<D: Draws>(&self, words: &mut D) -> Result<(KeyId, u64), Fault>
-        ensures id { result ≡ id_answer (drawn_id (keyset_view self.now.ks).keys (D.Draws.left words.old)) }
-        ensures words { D.Draws.left words.new ≡ words_after_id (drawn_id (keyset_view self.now.ks).keys (D.Draws.left words.old)) (D.Draws.left words.old) }
+        ensures id { result ≡ id_answer (drawn_id self.now.keys (D.left words.old)) }
+        ensures words { D.left words.new ≡ words_after_id (drawn_id self.now.keys (D.left words.old)) (D.left words.old) }
     {
         let mut taken = 0u64;
         loop {
@@ -45,8 +45,8 @@ impl Manager {
         kt: &KeyTemplate,
         words: &mut D,
     ) -> Result<Key, Fault>
-        ensures key { answered key_view result ≡ made_key (registered_in M.Primitives.maker M.KeyMaking.keys registry.now.bank.now) (key_template_view kt.now) (keyset_view self.now.ks).keys (D.Draws.left words.old) }
-        ensures words { D.Draws.left words.new ≡ words_made (registered_in M.Primitives.maker M.KeyMaking.keys registry.now.bank.now) (key_template_view kt.now) (keyset_view self.now.ks).keys (D.Draws.left words.old) }
+        ensures key { answered key_view result ≡ made_key (managers M.maker M.keys registry.now) (key_template_view kt.now) self.now.keys (D.left words.old) }
+        ensures words { D.left words.new ≡ words_made (managers M.maker M.keys registry.now) (key_template_view kt.now) self.now.keys (D.left words.old) }
     {
         let key_data = registry.new_key_data(kt, words)?;
         let (key_id, _taken) = self.new_key_id(words)?;
@@ -63,8 +63,8 @@ impl Manager {
 
     // The key goes to the end.
     fn append(&mut self, key: Key, as_primary: bool)
-        requires { length (keyset_view self.old.ks).keys < 16 }
-        ensures { keyset_view self.new.ks ≡ with_key as_primary (key_view key) (keyset_view self.old.ks) }
+        requires { length self.old.keys < 16 }
+        ensures { self.new ≡ with_key as_primary (key_view key) self.old }
     {
         let _ = self.ks.key.push(key);
         if as_primary {
@@ -81,11 +81,9 @@ impl Manager {
         as_primary: bool,
         words: &mut D,
     ) -> Result<KeyId, Fault>
-        ensures after { keyset_view self.new.ks ≡ (added (registered_in M.Primitives.maker M.KeyMaking.keys registry.now.bank.now) (key_template_view kt.now) as_primary (keyset_view self.old.ks) (D.Draws.left words.old)).keyset }
-        ensures words { D.Draws.left words.new ≡ (added (registered_in M.Primitives.maker M.KeyMaking.keys registry.now.bank.now) (key_template_view kt.now) as_primary (keyset_view self.old.ks) (D.Draws.left words.old)).words }
-        ensures value { result ≡ (added (registered_in M.Primitives.maker M.KeyMaking.keys registry.now.bank.now) (key_template_view kt.now) as_primary (keyset_view self.old.ks) (D.Draws.left words.old)).answer }
-        ensures distinct { DistinctIds (keyset_view self.old.ks).keys → DistinctIds (keyset_view self.new.ks).keys }
-        ensures usable { NewKeyUsable (registered_in M.Primitives.maker M.KeyMaking.keys registry.now.bank.now) (length (keyset_view self.old.ks).keys) (keyset_view self.new.ks) result }
+        ensures adds { Adds (managers M.maker M.keys registry.now) (key_template_view kt.now) as_primary self.old self.new (D.left words.old) (D.left words.new) result }
+        ensures distinct { DistinctIds self.old.keys → DistinctIds self.new.keys }
+        ensures usable { NewKeyUsable (managers M.maker M.keys registry.now) (length self.old.keys) self.new result }
     {
         if self.ks.key.len() >= 16 {
             return Err(Fault::new(Refusal::KeysetFull, Layer::Manager));
@@ -102,11 +100,9 @@ impl Manager {
         kt: &KeyTemplate,
         words: &mut D,
     ) -> Result<KeyId, Fault>
-        ensures after { keyset_view self.new.ks ≡ (added (registered_in M.Primitives.maker M.KeyMaking.keys registry.now.bank.now) (key_template_view kt.now) true (keyset_view self.old.ks) (D.Draws.left words.old)).keyset }
-        ensures words { D.Draws.left words.new ≡ (added (registered_in M.Primitives.maker M.KeyMaking.keys registry.now.bank.now) (key_template_view kt.now) true (keyset_view self.old.ks) (D.Draws.left words.old)).words }
-        ensures value { result ≡ (added (registered_in M.Primitives.maker M.KeyMaking.keys registry.now.bank.now) (key_template_view kt.now) true (keyset_view self.old.ks) (D.Draws.left words.old)).answer }
-        ensures distinct { DistinctIds (keyset_view self.old.ks).keys → DistinctIds (keyset_view self.new.ks).keys }
-        ensures usable { NewKeyUsable (registered_in M.Primitives.maker M.KeyMaking.keys registry.now.bank.now) (length (keyset_view self.old.ks).keys) (keyset_view self.new.ks) result }
+        ensures adds { Adds (managers M.maker M.keys registry.now) (key_template_view kt.now) true self.old self.new (D.left words.old) (D.left words.new) result }
+        ensures distinct { DistinctIds self.old.keys → DistinctIds self.new.keys }
+        ensures usable { NewKeyUsable (managers M.maker M.keys registry.now) (length self.old.keys) self.new result }
     {
         self.add(registry, kt, true, words)
     }

@@ -1,11 +1,10 @@
 // The edits. Status and edit together decide, in one `match` that changes the key in place. The list lends no `&mut` to
 // an item, so the key is a copy and is put back.
 ghost use Rattle.std.specs.Prelude.{◌≡◌, not, if◌then◌else◌, Some, None, MatchResult};
-ghost use Rattle.encoding.specs.Lists.{list};
-ghost use Rattle.encoding.specs.Views.{key_view, keyset_view};
+ghost use Rattle.encoding.specs.Views.{key_view};
 ghost use Rattle.keysets.specs.Answering.{only_if};
 ghost use Rattle.encoding.specs.Kinds.{status_of};
-ghost use Rattle.keysets.specs.Edits.{position_of, key_at, takes, spares_primary, spared_in, key_after, keys_after, primary_after, key_is_primary, key_not_found, status_bars, edited};
+ghost use Rattle.keysets.specs.Edits.{position_of, key_at, takes, spares_primary, spared_in, key_after, keyset_after, key_is_primary, key_not_found, status_bars, Edits};
 
 use crate::manager::{Edit, Manager, blank_key};
 use ciphers::fault::{Fault, Layer, Refusal};
@@ -56,47 +55,42 @@ fn edit_key(key: &mut Key, edit: Edit, at: usize) -> Result<(), Fault>
 impl Manager {
     // An Enabled or Disabled key becomes Enabled.
     pub fn enable(&mut self, key_id: KeyId) -> Result<(), Fault>
-        ensures after { keyset_view self.new.ks ≡ (edited Edit.Enable key_id (keyset_view self.old.ks)).keyset }
-        ensures value { result ≡ (edited Edit.Enable key_id (keyset_view self.old.ks)).answer }
+        ensures { Edits Edit.Enable key_id self.old self.new result }
     {
         self.edit(Edit::Enable, key_id)
     }
 
     // An Enabled or Disabled key that is not primary becomes Disabled.
     pub fn disable(&mut self, key_id: KeyId) -> Result<(), Fault>
-        ensures after { keyset_view self.new.ks ≡ (edited Edit.Disable key_id (keyset_view self.old.ks)).keyset }
-        ensures value { result ≡ (edited Edit.Disable key_id (keyset_view self.old.ks)).answer }
+        ensures { Edits Edit.Disable key_id self.old self.new result }
     {
         self.edit(Edit::Disable, key_id)
     }
 
     // An Enabled, Disabled or Destroyed key that is not primary becomes Destroyed, and its data goes.
     pub fn destroy(&mut self, key_id: KeyId) -> Result<(), Fault>
-        ensures after { keyset_view self.new.ks ≡ (edited Edit.Destroy key_id (keyset_view self.old.ks)).keyset }
-        ensures value { result ≡ (edited Edit.Destroy key_id (keyset_view self.old.ks)).answer }
+        ensures { Edits Edit.Destroy key_id self.old self.new result }
     {
         self.edit(Edit::Destroy, key_id)
     }
 
     // A key that is not primary leaves the keyset.
     pub fn delete(&mut self, key_id: KeyId) -> Result<(), Fault>
-        ensures after { keyset_view self.new.ks ≡ (edited Edit.Delete key_id (keyset_view self.old.ks)).keyset }
-        ensures value { result ≡ (edited Edit.Delete key_id (keyset_view self.old.ks)).answer }
+        ensures { Edits Edit.Delete key_id self.old self.new result }
     {
         self.edit(Edit::Delete, key_id)
     }
 
     // An Enabled key becomes primary.
     pub fn set_primary(&mut self, key_id: KeyId) -> Result<(), Fault>
-        ensures after { keyset_view self.new.ks ≡ (edited Edit.SetPrimary key_id (keyset_view self.old.ks)).keyset }
-        ensures value { result ≡ (edited Edit.SetPrimary key_id (keyset_view self.old.ks)).answer }
+        ensures { Edits Edit.SetPrimary key_id self.old self.new result }
     {
         self.edit(Edit::SetPrimary, key_id)
     }
 
     // Refuses the primary id to the edits that spare it.
     fn check_spared(&self, edit: Edit, id: KeyId) -> Result<(), Fault>
-        ensures { result ≡ only_if (not (spared_in edit id (keyset_view self.now.ks))) key_is_primary }
+        ensures { result ≡ only_if (not (spared_in edit id self.now)) key_is_primary }
     {
         if edit.spares_primary() && self.ks.primary_key_id == id {
             return Err(Fault::new(Refusal::KeyIsPrimary, Layer::Manager));
@@ -107,8 +101,8 @@ impl Manager {
     // The first key with an id, and its position.
     pub(super) fn find(&self, id: KeyId) -> Result<Found, Fault>
         ensures { MatchResult result
-            (λ k. (position_of id (keyset_view self.now.ks).keys ≡ Some k.at) × (key_view k.key ≡ key_at (keyset_view self.now.ks).keys k.at))
-            (λ f. (position_of id (keyset_view self.now.ks).keys ≡ None) × (f ≡ key_not_found)) }
+            (λ k. (position_of id self.now.keys ≡ Some k.at) × (key_view k.key ≡ key_at self.now.keys k.at))
+            (λ f. (position_of id self.now.keys ≡ None) × (f ≡ key_not_found)) }
     {
         let keys = self.ks.key.as_slice();
         for (i, key) in keys.iter().enumerate() {
@@ -120,8 +114,7 @@ impl Manager {
     }
 
     fn edit(&mut self, edit: Edit, id: KeyId) -> Result<(), Fault>
-        ensures after { keyset_view self.new.ks ≡ (edited edit id (keyset_view self.old.ks)).keyset }
-        ensures value { result ≡ (edited edit id (keyset_view self.old.ks)).answer }
+        ensures { Edits edit id self.old self.new result }
     {
         self.check_spared(edit, id)?;
         let mut found = self.find(id)?;
@@ -132,8 +125,7 @@ impl Manager {
 
     // The key at `at`, which has the id, took an edit and became `key`.
     fn put_back(&mut self, edit: Edit, id: KeyId, at: usize, key: Key)
-        ensures keys { list self.new.ks.key ≡ keys_after edit at key (list self.old.ks.key) }
-        ensures primary { self.new.ks.primary_key_id ≡ primary_after edit id self.old.ks.primary_key_id }
+        ensures { self.new ≡ keyset_after edit id at (key_view key) self.old }
     {
         match edit {
             Edit::Enable | Edit::Disable | Edit::Destroy => {

@@ -1,7 +1,7 @@
 // Primitives of the keys of a keyset, for other crates: the key bytes stay here.
 ghost use Rattle.std.specs.Prelude.{◌≡◌};
-ghost use Rattle.encoding.specs.Views.{key_view, keyset_view};
-ghost use Rattle.keysets.specs.Registries.{registered as registered_in};
+ghost use Rattle.encoding.specs.Views.{key_view};
+ghost use Rattle.keysets.specs.Registries.{managers};
 ghost use Rattle.keysets.specs.Running.{key_primitive, primitive_at};
 
 use crate::check::check_key;
@@ -16,7 +16,7 @@ use encoding::records::Key;
 fn make_primitive<M: KeyManager>(registry: &Registry<M>, key: &Key) -> Result<M::Primitive, Fault>
 where
     M::Primitive: Drop,
-    ensures { result ≡ key_primitive (registered_in M.Primitives.maker M.KeyMaking.keys registry.now.bank.now) (key_view key.now) }
+    ensures { result ≡ key_primitive (managers M.maker M.keys registry.now) (key_view key.now) }
 {
     check_key(key)?;
     let no_data = Fault::new(Refusal::NoKeyData, Layer::Handle);
@@ -37,7 +37,7 @@ impl Manager {
     ) -> Result<M::Primitive, Fault>
     where
         M::Primitive: Drop,
-        ensures { result ≡ primitive_at (registered_in M.Primitives.maker M.KeyMaking.keys registry.now.bank.now) at (keyset_view self.now.ks) }
+        ensures { result ≡ primitive_at (managers M.maker M.keys registry.now) at self.now }
     {
         let no_key = Fault::new(Refusal::KeyNotFound, Layer::Manager);
         let key = self.key_at(at).ok_or(no_key)?;

@@ -5,7 +5,7 @@ ghost use Rattle.encoding.specs.Lists.{item};
 ghost use Rattle.std.specs.Str.{bytes_eq};
 ghost use Rattle.encoding.specs.Meanings.{keyset_fields};
 ghost use Rattle.encoding.specs.Wire.{encode};
-ghost use Rattle.encoding.specs.Views.{key_view, keyset_view};
+ghost use Rattle.encoding.specs.Views.{key_view};
 ghost use Rattle.keysets.specs.Validation.{valid};
 ghost use Rattle.keysets.specs.Reading.{id_at, status_at, prefix_at};
 
@@ -17,27 +17,27 @@ use encoding::records::{Key, KeyId};
 
 impl Manager {
     pub fn primary_key_id(&self) -> KeyId
-        ensures { result ≡ (keyset_view self.now.ks).primary_key_id }
+        ensures { result ≡ self.now.primary_key_id }
     {
         self.ks.primary_key_id
     }
 
     pub fn key_id_at(&self, at: usize) -> Option<KeyId>
-        ensures { result ≡ id_at at (keyset_view self.now.ks) }
+        ensures { result ≡ id_at at self.now }
     {
         let key = self.key_at(at)?;
         Some(key.key_id)
     }
 
     pub fn status_at(&self, at: usize) -> Option<i32>
-        ensures { result ≡ status_at at (keyset_view self.now.ks) }
+        ensures { result ≡ status_at at self.now }
     {
         let key = self.key_at(at)?;
         Some(key.status)
     }
 
     pub fn prefix_type_at(&self, at: usize) -> Option<i32>
-        ensures { result ≡ prefix_at at (keyset_view self.now.ks) }
+        ensures { result ≡ prefix_at at self.now }
     {
         let key = self.key_at(at)?;
         Some(key.output_prefix_type)
@@ -45,7 +45,7 @@ impl Manager {
 
     // Whether these are the keyset's bytes: the key bytes themselves are not handed out.
     pub fn has_encoding(&self, bytes: &[u8]) -> bool
-        ensures { result ≡ bytes_eq (encode (keyset_fields (keyset_view self.now.ks))) bytes.now }
+        ensures { result ≡ bytes_eq (encode (keyset_fields self.now)) bytes.now }
     {
         let mut out = [0u8; 3878];
         match write(&self.ks, &mut out) {
@@ -56,13 +56,13 @@ impl Manager {
 
     // Whether the keyset is a valid one.
     pub fn validate(&self) -> Result<(), Fault>
-        ensures { result ≡ valid (keyset_view self.now.ks) }
+        ensures { result ≡ valid self.now }
     {
         validate(&self.ks)
     }
 
     pub(super) fn key_at(&self, at: usize) -> Option<Key>
-        ensures { option_map key_view result ≡ item (keyset_view self.now.ks).keys at }
+        ensures { option_map key_view result ≡ item self.now.keys at }
     {
         self.ks.key.get(at)
     }

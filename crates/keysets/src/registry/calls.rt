@@ -3,7 +3,7 @@ ghost use Rattle.std.specs.Prelude.{◌≡◌, ℕ, ◌<◌, false, List, length
 ghost use Rattle.encoding.specs.Lists.{list};
 ghost use Rattle.encoding.specs.Views.{key_data_view, url_bytes};
 ghost use Rattle.keysets.specs.Managers.{answered};
-ghost use Rattle.keysets.specs.Registries.{registered as registered_in, registered_at, register_answer, url_at, found, unknown, new_key_by, new_key_data_by, words_by, primitive_by};
+ghost use Rattle.keysets.specs.Registries.{managers, registered_at, register_answer, url_at, found, unknown, new_key_by, new_key_data_by, words_by, primitive_by};
 
 use crate::registry::key_manager::KeyManager;
 use crate::registry::{Place, Registry};
@@ -36,8 +36,8 @@ impl<'a, M: KeyManager> Registry<'a, M> {
     // The manager that is registered for a type URL, or 13 R.
     pub fn get_key_manager(&self, type_url: &[u8]) -> Result<&M, Fault>
         ensures { MatchResult result
-            (λ m. found type_url.now (registered_in M.Primitives.maker M.KeyMaking.keys self.now.bank.now) ≡ Some (record { maker = M.Primitives.maker m.now; keys = M.KeyMaking.keys m.now }))
-            (λ f. (f ≡ unknown) × (found type_url.now (registered_in M.Primitives.maker M.KeyMaking.keys self.now.bank.now) ≡ None)) }
+            (λ m. found type_url.now (managers M.maker M.keys self.now) ≡ Some (record { maker = M.maker m.now; keys = M.keys m.now }))
+            (λ f. (f ≡ unknown) × (found type_url.now (managers M.maker M.keys self.now) ≡ None)) }
     {
         for place in &*self.bank {
             if place.registered && place.manager.does_support(type_url) {
@@ -48,7 +48,7 @@ impl<'a, M: KeyManager> Registry<'a, M> {
     }
 
     fn is_registered(&self, type_url: &[u8]) -> bool
-        ensures { result ≡ is_some (found type_url.now (registered_in M.Primitives.maker M.KeyMaking.keys self.now.bank.now)) }
+        ensures { result ≡ is_some (found type_url.now (managers M.maker M.keys self.now)) }
     {
         self.get_key_manager(type_url).is_ok()
     }
@@ -56,7 +56,7 @@ impl<'a, M: KeyManager> Registry<'a, M> {
     // Whether the type of the manager at a place is registered, by it or by another.
     fn is_taken(&self, number: usize) -> bool
         requires { number < length self.now.bank.now }
-        ensures { result ≡ is_some (found (url_at M.Primitives.maker self.now.bank.now number) (registered_in M.Primitives.maker M.KeyMaking.keys self.now.bank.now)) }
+        ensures { result ≡ is_some (found (url_at M.maker self.now.bank.now number) (managers M.maker M.keys self.now)) }
     {
         let bank = &*self.bank;
         self.is_registered(bank[number].manager.type_url())
@@ -64,7 +64,7 @@ impl<'a, M: KeyManager> Registry<'a, M> {
 
     // Registers the manager at a place of the bank.
     pub fn register_key_manager(&mut self, number: usize) -> Result<(), Fault>
-        ensures answer { result ≡ register_answer (nat_lt number (length self.old.bank.now)) (is_some (found (url_at M.Primitives.maker self.old.bank.now number) (registered_in M.Primitives.maker M.KeyMaking.keys self.old.bank.now))) }
+        ensures answer { result ≡ register_answer (nat_lt number (length self.old.bank.now)) (is_some (found (url_at M.maker self.old.bank.now number) (managers M.maker M.keys self.old))) }
         ensures bank { self.new.bank.now ≡ (if is_ok result then registered_at number self.old.bank.now else self.old.bank.now) }
         ensures lent { self.new.bank.ghost_name ≡ self.old.bank.ghost_name }
     {
@@ -80,8 +80,8 @@ impl<'a, M: KeyManager> Registry<'a, M> {
 
     // A new key's data, by the manager of the template's type.
     pub fn new_key_data<D: Draws>(&self, kt: &KeyTemplate, words: &mut D) -> Result<KeyData, Fault>
-        ensures key { answered key_data_view result ≡ new_key_data_by (found (url_bytes kt.now.type_url) (registered_in M.Primitives.maker M.KeyMaking.keys self.now.bank.now)) (list kt.now.value) (D.Draws.left words.old) }
-        ensures words { D.Draws.left words.new ≡ words_by (found (url_bytes kt.now.type_url) (registered_in M.Primitives.maker M.KeyMaking.keys self.now.bank.now)) (list kt.now.value) (D.Draws.left words.old) }
+        ensures key { answered key_data_view result ≡ new_key_data_by (found (url_bytes kt.now.type_url) (managers M.maker M.keys self.now)) (list kt.now.value) (D.left words.old) }
+        ensures words { D.left words.new ≡ words_by (found (url_bytes kt.now.type_url) (managers M.maker M.keys self.now)) (list kt.now.value) (D.left words.old) }
     {
         let manager = self.get_key_manager(kt.type_url.as_bytes())?;
         manager.new_key_data(kt.value.as_slice(), words)
@@ -89,8 +89,8 @@ impl<'a, M: KeyManager> Registry<'a, M> {
 
     // A new key's bytes.
     pub fn new_key<D: Draws>(&self, kt: &KeyTemplate, words: &mut D) -> Result<Value, Fault>
-        ensures key { answered list result ≡ new_key_by (found (url_bytes kt.now.type_url) (registered_in M.Primitives.maker M.KeyMaking.keys self.now.bank.now)) (list kt.now.value) (D.Draws.left words.old) }
-        ensures words { D.Draws.left words.new ≡ words_by (found (url_bytes kt.now.type_url) (registered_in M.Primitives.maker M.KeyMaking.keys self.now.bank.now)) (list kt.now.value) (D.Draws.left words.old) }
+        ensures key { answered list result ≡ new_key_by (found (url_bytes kt.now.type_url) (managers M.maker M.keys self.now)) (list kt.now.value) (D.left words.old) }
+        ensures words { D.left words.new ≡ words_by (found (url_bytes kt.now.type_url) (managers M.maker M.keys self.now)) (list kt.now.value) (D.left words.old) }
     {
         let manager = self.get_key_manager(kt.type_url.as_bytes())?;
         manager.new_key(kt.value.as_slice(), words)
@@ -98,7 +98,7 @@ impl<'a, M: KeyManager> Registry<'a, M> {
 
     // The primitive of a key's bytes, by the manager of its type.
     pub fn primitive(&self, type_url: &[u8], sk: &[u8]) -> Result<M::Primitive, Fault>
-        ensures { result ≡ primitive_by (found type_url.now (registered_in M.Primitives.maker M.KeyMaking.keys self.now.bank.now)) sk.now }
+        ensures { result ≡ primitive_by (found type_url.now (managers M.maker M.keys self.now)) sk.now }
     {
         if sk.is_empty() {
             return Err(Fault::new(Refusal::EmptyValue, Layer::Registry));
@@ -107,7 +107,7 @@ impl<'a, M: KeyManager> Registry<'a, M> {
     }
 
     pub fn primitive_from_key_data(&self, kd: &KeyData) -> Result<M::Primitive, Fault>
-        ensures { result ≡ primitive_by (found (url_bytes kd.now.type_url) (registered_in M.Primitives.maker M.KeyMaking.keys self.now.bank.now)) (list kd.now.value) }
+        ensures { result ≡ primitive_by (found (url_bytes kd.now.type_url) (managers M.maker M.keys self.now)) (list kd.now.value) }
     {
         self.primitive(kd.type_url.as_bytes(), kd.value.as_slice())
     }

@@ -27,28 +27,28 @@ pub trait KeyMaking: Primitives {
 
     ghost material_known: { (m : Self) → (keys m).material ≤ 4 };
 
-    ghost lawful: { (m : Self) (format words : List ℕ) → Lawful (Self.Primitives.maker m) words ((keys m).new_key format words) };
+    ghost lawful: { (m : Self) (format words : List ℕ) → Lawful (Self.maker m) words ((keys m).new_key format words) };
 }
 
 pub trait KeyManager: KeyMaking {
     // The primitive of a key, or 16 K with the manager's reason.
     fn primitive(&self, serialized_key: &[u8]) -> Result<Self::Primitive, Fault>
-        ensures { result ≡ primitive_answer ((Self.Primitives.maker self.now).primitive serialized_key.now) };
+        ensures { result ≡ primitive_answer ((Self.maker self.now).primitive serialized_key.now) };
 
     // A new key's bytes. A reason takes no word; after 20 D the source is empty.
     fn new_key<D: Draws>(&self, serialized_key_format: &[u8], words: &mut D) -> Result<Value, Fault>
-        ensures key { answered list result ≡ key_answer ((Self.KeyMaking.keys self.now).new_key serialized_key_format.now (D.Draws.left words.old)) }
-        ensures words { D.Draws.left words.new ≡ words_after ((Self.KeyMaking.keys self.now).new_key serialized_key_format.now (D.Draws.left words.old)) (D.Draws.left words.old) };
+        ensures key { answered list result ≡ key_answer ((Self.keys self.now).new_key serialized_key_format.now (D.left words.old)) }
+        ensures words { D.left words.new ≡ words_after ((Self.keys self.now).new_key serialized_key_format.now (D.left words.old)) (D.left words.old) };
 
     fn type_url(&self) -> &[u8]
-        ensures { result.now ≡ (Self.Primitives.maker self.now).type_url };
+        ensures { result.now ≡ (Self.maker self.now).type_url };
 
     fn key_material_type(&self) -> KeyMaterialType
-        ensures { material_number result ≡ pos (Self.KeyMaking.keys self.now).material };
+        ensures { material_number result ≡ pos (Self.keys self.now).material };
 
     // Whether keys of that type are this manager's.
     fn does_support(&self, type_url: &[u8]) -> bool
-        ensures { result ≡ bytes_eq type_url.now (Self.Primitives.maker self.now).type_url }
+        ensures { result ≡ bytes_eq type_url.now (Self.maker self.now).type_url }
     {
         type_url == self.type_url()
     }
@@ -59,8 +59,8 @@ pub trait KeyManager: KeyMaking {
         serialized_key_format: &[u8],
         words: &mut D,
     ) -> Result<KeyData, Fault>
-        ensures key { answered key_data_view result ≡ key_data_answer (Self.Primitives.maker self.now).type_url (Self.KeyMaking.keys self.now).material ((Self.KeyMaking.keys self.now).new_key serialized_key_format.now (D.Draws.left words.old)) }
-        ensures words { D.Draws.left words.new ≡ words_after ((Self.KeyMaking.keys self.now).new_key serialized_key_format.now (D.Draws.left words.old)) (D.Draws.left words.old) }
+        ensures key { answered key_data_view result ≡ key_data_answer (Self.maker self.now).type_url (Self.keys self.now).material ((Self.keys self.now).new_key serialized_key_format.now (D.left words.old)) }
+        ensures words { D.left words.new ≡ words_after ((Self.keys self.now).new_key serialized_key_format.now (D.left words.old)) (D.left words.old) }
     {
         let value = self.new_key(serialized_key_format, words)?;
         let type_url = TypeUrl::new(self.type_url())?;

@@ -1,12 +1,11 @@
 use Rattle.std.proofs.Common.{ℕ, ◌+◌, List, ◌∷◌, Ok, Option, sym, ap, ◌∙◌}
-use Rattle.encoding.specs.Views.{keyset_view}
 use Rattle.keysets.specs.Adding.{DrawnId, id_answer, words_after_id}
 use Rattle.keysets.proofs.Ids.{drew, left-more, passed, taken, counted_more}
 use Rattle.keysets.proofs.manager.Manager.new_key_id.Goals as goal
 
 pub loop-word-preserved : goal.loop-word-preserved
 loop-word-preserved g c =
-    let ks = (keyset_view c.args.self.now.ks).keys in
+    let ks = c.args.self.now.keys in
     let all = g.D.Draws.left c.args.words.now in
     let after = g.D.Draws.left c.draw.new.self in
     let w = c.in_ok-word.word in
@@ -21,7 +20,7 @@ loop-word-preserved g c =
 
 pub returns-then-not-is_present : goal.returns-then-not-is_present
 returns-then-not-is_present g c =
-    let ks = (keyset_view c.args.self.now.ks).keys in
+    let ks = c.args.self.now.keys in
     let all = g.D.Draws.left c.args.words.now in
     let after = g.D.Draws.left c.draw.new.self in
     let w = c.in_ok-word.word in
