@@ -23,10 +23,7 @@ impl Edit {
     fn spares_primary(self) -> bool
         ensures { result ≡ spares_primary self }
     {
-        match self {
-            Edit::Disable | Edit::Destroy | Edit::Delete => true,
-            Edit::Enable | Edit::SetPrimary => false,
-        }
+        matches!(self, Edit::Disable | Edit::Destroy | Edit::Delete)
     }
 }
 

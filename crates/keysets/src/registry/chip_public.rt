@@ -38,11 +38,8 @@ impl KeyMaking for ChipPublic {
 
 impl KeyManager for ChipPublic {
     fn primitive(&self, serialized_key: &[u8]) -> Result<Chip, Fault> {
-        if serialized_key.len() != 32 {
-            return Err(Fault::new(Refusal::KeyManagerReason, Layer::KeyManager).because(1));
-        }
-        let mut half = [0u8; 32];
-        half.copy_from_slice(serialized_key);
+        let wrong_size = Fault::new(Refusal::KeyManagerReason, Layer::KeyManager).because(1);
+        let half = <[u8; 32]>::try_from(serialized_key).map_err(|_| wrong_size)?;
         Ok(Chip { public: true, half })
     }
 

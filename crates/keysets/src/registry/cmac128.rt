@@ -37,11 +37,8 @@ impl KeyMaking for Cmac128 {
 
 impl KeyManager for Cmac128 {
     fn primitive(&self, serialized_key: &[u8]) -> Result<MacKey, Fault> {
-        if serialized_key.len() != 16 {
-            return Err(Fault::new(Refusal::KeyManagerReason, Layer::KeyManager).because(1));
-        }
-        let mut bytes = [0u8; 16];
-        bytes.copy_from_slice(serialized_key);
+        let wrong_size = Fault::new(Refusal::KeyManagerReason, Layer::KeyManager).because(1);
+        let bytes = <[u8; 16]>::try_from(serialized_key).map_err(|_| wrong_size)?;
         Ok(MacKey { bytes })
     }
 
@@ -50,7 +47,7 @@ impl KeyManager for Cmac128 {
         serialized_key_format: &[u8],
         words: &mut D,
     ) -> Result<Value, Fault> {
-        if serialized_key_format.len() != 0 {
+        if !serialized_key_format.is_empty() {
             return Err(Fault::new(Refusal::KeyManagerReason, Layer::KeyManager).because(2));
         }
         let a = words.draw()?.to_be_bytes();
