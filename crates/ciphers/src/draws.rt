@@ -9,6 +9,7 @@ ghost use Rattle.ciphers.specs.Sources.{words_left};
 use crate::aes::Aes128;
 use crate::blocks::block_of;
 use crate::fault::{Fault, Layer, Refusal};
+use std::marker::Model;
 
 // A source means the list of words left in it.
 pub trait Draws {
@@ -26,16 +27,25 @@ pub struct Tape<'a> {
     words: &'a [u32],
 }
 
+// A tape is seen as the words left on it.
+impl<'a> Model for Tape<'a> {
+    ghost use Rattle.std.specs.Prelude.{ℕ, List};
+
+    ghost Value = { List ℕ };
+
+    ghost view = { λ t. t.words.now };
+}
+
 impl<'a> Tape<'a> {
     pub fn new(words: &'a [u32]) -> Tape<'a>
-        ensures { result.words.now ≡ words.now }
+        ensures { result ≡ words.now }
     {
         Tape { words }
     }
 }
 
 impl Draws for Tape<'_> {
-    ghost left = { λ t. t.words.now };
+    ghost left = { λ t. t };
 
     fn draw(&mut self) -> Result<u32, Fault> {
         let none_left = Fault::new(Refusal::NoWordLeft, Layer::Draws);
