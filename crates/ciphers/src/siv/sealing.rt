@@ -8,7 +8,6 @@ ghost use Rattle.ciphers.specs.Sivs.{siv_key};
 ghost use Rattle.ciphers.specs.Tagging.{mac_key};
 
 use super::Siv;
-use super::s2v::{gather, plain_tag};
 use crate::aes::Aes128;
 use crate::blocks::{front, number_of};
 use crate::cmac::Cmac;
@@ -37,8 +36,8 @@ impl Siv {
         requires { length plain.now + 16 ≤ length out.old }
         ensures { out.new ≡ sealed_by (cipher (mac_key self.now.mac)) (cipher (aes_key self.now.ctr)) ad.now plain.now ++ drop (16 + length plain.now) out.old }
     {
-        let d = gather(&self.mac, ad);
-        let v = plain_tag(&self.mac, d, plain);
+        let d = self.gather(ad);
+        let v = self.plain_tag(d, plain);
         out[..16].copy_from_slice(&v);
         mask(&self.ctr, clear(v), plain, &mut out[16..]);
     }
@@ -50,7 +49,7 @@ impl Siv {
             (λ text. (genuine (cipher (mac_key self.now.mac)) (cipher (aes_key self.now.ctr)) ad.now sealed.now ≡ true) × (16 ≤ length sealed.now) × (text.now ≡ drop 16 sealed.now)) }
     {
         let (v, text) = sealed.split_first_chunk::<16>()?;
-        let d = gather(&self.mac, ad);
+        let d = self.gather(ad);
         let t = self.masked_tag(clear(*v), d, text);
         if t == *v { Some(text) } else { None }
     }

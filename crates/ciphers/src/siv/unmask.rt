@@ -7,7 +7,7 @@ ghost use Rattle.ciphers.specs.Rfc5297.{lastly, xor_end, masked};
 ghost use Rattle.ciphers.specs.Tagging.{mac_key};
 
 use super::Siv;
-use super::s2v::{end_tag, short_tag};
+use super::s2v::end_tag;
 use crate::blocks::{front, xor};
 use crate::ctr::{mask, stream_block};
 
@@ -40,6 +40,6 @@ impl Siv {
         }
         let mut block = [0u8; 16];
         mask(&self.ctr, q, text, &mut block);
-        short_tag(&self.mac, &block[..n], d)
+        self.short_tag(d, &block[..n])
     }
 }
