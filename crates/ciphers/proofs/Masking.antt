@@ -1,8 +1,8 @@
 -- The counter mode's mask: byte by byte in the definition, block by block in the code.
-use Rattle.std.proofs.Common.{◌≡◌, ℕ, zero, suc, ◌+◌, ◌-◌, ◌*◌, ◌/◌, ◌%◌, ◌^◌, ◌<◌, ◌≤◌, List, [], ◌∷◌, ◌++◌, length, get_or, take, drop, set, sym, refl, ap, ◌∙◌, append_assoc, add-zero, add-suc, suc-add, zero-add, add-one, arith, length-drop}
+use Rattle.std.proofs.Common.{◌≡◌, ℕ, zero, suc, ◌+◌, ◌-◌, ◌*◌, ◌/◌, ◌%◌, ◌^◌, ◌<◌, ◌≤◌, List, [], ◌∷◌, ◌++◌, length, get_or, take, drop, set, sym, refl, ap, ◌∙◌, append_assoc, add-zero, add-suc, suc-add, zero-add, add-one, arith, length-append, length-drop}
 use lib.Bits.{bit_xor, xor_assoc, xor_self, xor_zero_r}
 use borrow.Rule.Slice.PartMut.{put_mid}
-use Rattle.std.proofs.lemmas.List.{append-nil, take_all, take_at, drop_all, drop_at, drop_more, drop-drop, length-take-le, set_at}
+use Rattle.std.proofs.lemmas.List.{append-nil, take-take, drop-take, take_all, take_at, drop_all, drop_at, drop_more, drop-drop, length-take-le, set_at}
 use Rattle.ciphers.specs.Bytes.{xors, bytes}
 use Rattle.ciphers.specs.Rfc4493.{Cipher}
 use Rattle.ciphers.specs.Rfc5297.{counter, key_byte, masked_from, masked, MasksTwice}
@@ -12,6 +12,20 @@ pub take_parts : (n k : ℕ) (xs : List ℕ) → take (n + k) xs ≡ take n xs +
 take_parts zero k xs = ap (λ (i : ℕ). take i xs) (zero-add k)
 take_parts (suc n) k [] = ap (λ (i : ℕ). take i []) (suc-add n k) ∙ sym (take_all k [] (omega arith))
 take_parts (suc n) k (x ∷ xs) = ap (λ (i : ℕ). take i (x ∷ xs)) (suc-add n k) ∙ ap (λ (l : List ℕ). x ∷ l) (take_parts n k xs)
+
+-- the chunk of 16 that comes next of the first n bytes, and what is left of them
+pub next_chunk : (n at : ℕ) (text b r : List ℕ) → at ≤ n → n ≤ length text → drop at (take n text) ≡ b ++ r → length b ≡ 16
+    → (at + 16 ≤ n) × (b ≡ take 16 (drop at text)) × (r ≡ drop (at + 16) (take n text))
+next_chunk n at text b r low long e sixteen =
+    let count : length (drop at (take n text)) ≡ n - at = length-drop at (take n text) ∙ ap (λ (k : ℕ). k - at) (length-take-le n text long) in
+    let whole : length (drop at (take n text)) ≡ length b + length r = ap length e ∙ length-append b r in
+    let inside : at + 16 ≤ n = omega arith in
+    let back : n ≡ at + (n - at) = omega arith in
+    let part : drop at (take n text) ≡ take (n - at) (drop at text) = ap (λ (k : ℕ). drop at (take k text)) back ∙ drop-take at (n - at) text in (
+      inside,
+      sym (take_at b r 16 sixteen) ∙ (ap (take 16) (sym e ∙ part) ∙ take-take 16 (n - at) (drop at text) (omega arith)),
+      sym (drop_at b r 16 sixteen) ∙ (ap (drop 16) (sym e) ∙ drop-drop 16 at (take n text)),
+    )
 
 xor_twice : (a k : ℕ) → bit_xor (bit_xor a k) k ≡ a
 xor_twice a k = xor_assoc a k k ∙ (ap (bit_xor a) (xor_self k) ∙ xor_zero_r a)

@@ -19,11 +19,10 @@ impl Siv {
     {
         let whole = text.len() / 16 - 1;
         let mut running = self.mac.start();
-        for j in 0..whole {
-            let plain = xor(front(&text[16 * j..]), stream_block(&self.ctr, q, j));
-            running.absorb(&plain);
+        let (blocks, rest) = text.split_at(16 * whole);
+        for (j, block) in blocks.chunks_exact(16).enumerate() {
+            running.absorb(&xor(front(block), stream_block(&self.ctr, q, j)));
         }
-        let rest = &text[16 * whole..];
         let n = rest.len();
         let mut tail = [0u8; 32];
         mask(&self.ctr, q.wrapping_add(whole as u128), rest, &mut tail);
