@@ -13,19 +13,26 @@ take_parts zero k xs = ap (λ (i : ℕ). take i xs) (zero-add k)
 take_parts (suc n) k [] = ap (λ (i : ℕ). take i []) (suc-add n k) ∙ sym (take_all k [] (omega arith))
 take_parts (suc n) k (x ∷ xs) = ap (λ (i : ℕ). take i (x ∷ xs)) (suc-add n k) ∙ ap (λ (l : List ℕ). x ∷ l) (take_parts n k xs)
 
--- the chunk of 16 that comes next of the first n bytes, and what is left of them
-pub next_chunk : (n at : ℕ) (text b r : List ℕ) → at ≤ n → n ≤ length text → drop at (take n text) ≡ b ++ r → length b ≡ 16
-    → (at + 16 ≤ n) × (b ≡ take 16 (drop at text)) × (r ≡ drop (at + 16) (take n text))
-next_chunk n at text b r low long e sixteen =
-    let count : length (drop at (take n text)) ≡ n - at = length-drop at (take n text) ∙ ap (λ (k : ℕ). k - at) (length-take-le n text long) in
-    let whole : length (drop at (take n text)) ≡ length b + length r = ap length e ∙ length-append b r in
-    let inside : at + 16 ≤ n = omega arith in
-    let back : n ≡ at + (n - at) = omega arith in
-    let part : drop at (take n text) ≡ take (n - at) (drop at text) = ap (λ (k : ℕ). drop at (take k text)) back ∙ drop-take at (n - at) text in (
-      inside,
-      sym (take_at b r 16 sixteen) ∙ (ap (take 16) (sym e ∙ part) ∙ take-take 16 (n - at) (drop at text) (omega arith)),
-      sym (drop_at b r 16 sixteen) ∙ (ap (drop 16) (sym e) ∙ drop-drop 16 at (take n text)),
+-- the chunk of 16 that comes next, and what is left then
+pub next_chunk : (text : List ℕ) (at : ℕ) (b r : List ℕ) → at ≤ length text → drop at text ≡ b ++ r → length b ≡ 16
+    → (at + 16 ≤ length text) × (b ≡ take 16 (drop at text)) × (r ≡ drop (at + 16) text)
+next_chunk text at b r low e sixteen =
+    let whole : length text - at ≡ length b + length r = sym (length-drop at text) ∙ (ap length e ∙ length-append b r) in (
+      omega (arith, whole),
+      sym (take_at b r 16 sixteen) ∙ ap (take 16) (sym e),
+      sym (drop_at b r 16 sixteen) ∙ (ap (drop 16) (sym e) ∙ drop-drop 16 at text),
     )
+
+-- the same of the first n bytes
+pub next_chunk_within : (n at : ℕ) (text b r : List ℕ) → at ≤ n → n ≤ length text → drop at (take n text) ≡ b ++ r → length b ≡ 16
+    → (at + 16 ≤ n) × (b ≡ take 16 (drop at text)) × (r ≡ drop (at + 16) (take n text))
+next_chunk_within n at text b r low long e sixteen =
+    let size : length (take n text) ≡ n = length-take-le n text long in
+    let here = next_chunk (take n text) at b r (omega arith) e sixteen in
+    let inside : at + 16 ≤ n = omega (arith, here.0) in
+    let back : n ≡ at + (n - at) = omega arith in
+    let part : drop at (take n text) ≡ take (n - at) (drop at text) = ap (λ (k : ℕ). drop at (take k text)) back ∙ drop-take at (n - at) text in
+    (inside, here.1 ∙ (ap (take 16) part ∙ take-take 16 (n - at) (drop at text) (omega arith)), here.2)
 
 xor_twice : (a k : ℕ) → bit_xor (bit_xor a k) k ≡ a
 xor_twice a k = xor_assoc a k k ∙ (ap (bit_xor a) (xor_self k) ∙ xor_zero_r a)

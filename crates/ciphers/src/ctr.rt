@@ -40,11 +40,10 @@ pub(crate) fn mask(aes: &Aes128, q: u128, text: &[u8], out: &mut [u8])
     requires { length text.now ≤ length out.old }
     ensures { out.new ≡ masked (cipher (aes_key aes.now)) q text.now ++ drop (length text.now) out.old }
 {
-    let whole = text.len() / 16;
-    for j in 0..whole {
-        let stream = stream_block(aes, q, j);
-        mask_block(stream, &text[16 * j..], &mut out[16 * j..]);
+    for (j, block) in text.chunks_exact(16).enumerate() {
+        mask_block(stream_block(aes, q, j), block, &mut out[16 * j..]);
     }
+    let whole = text.len() / 16;
     let stream = stream_block(aes, q, whole);
     mask_rest(stream, &text[16 * whole..], &mut out[16 * whole..]);
 }

@@ -1,11 +1,11 @@
-use Rattle.std.proofs.Common.{◌≡◌, ℕ, ◌+◌, ◌-◌, ◌*◌, ◌/◌, ◌%◌, ◌^◌, ◌≤◌, List, ◌++◌, length, take, drop, sym, refl, ap, ◌∙◌, arith, length-drop, rules}
+use Rattle.std.proofs.Common.{◌≡◌, ℕ, ◌+◌, ◌-◌, ◌*◌, ◌/◌, ◌%◌, ◌^◌, List, ◌++◌, length, take, drop, sym, refl, ap, ◌∙◌, arith, length-drop, rules}
 use Rattle.std.proofs.lemmas.List.{take_all, length-take-le}
 use Rattle.ciphers.specs.Bytes.{xors}
 use Rattle.ciphers.specs.Fips197.{cipher}
 use Rattle.ciphers.specs.Keys.{aes_key}
 use Rattle.ciphers.specs.Rfc5297.{counter, masked, masked_from}
 use Rattle.ciphers.specs.Tagging.{Progress, mac_key, progress, begun, absorbed}
-use Rattle.ciphers.proofs.Masking.{next_chunk, take_parts, masked-next, masked-front}
+use Rattle.ciphers.proofs.Masking.{next_chunk_within, take_parts, masked-next, masked-front}
 use Rattle.ciphers.proofs.InPieces.{absorbed-append, absorbed-none}
 use Rattle.ciphers.proofs.Ends.{tail_tag}
 use Rattle.ciphers.proofs.siv.Siv.long_tag.Goals as goal
@@ -36,7 +36,7 @@ loop-j-preserved c =
     let step = c.in-Some.ensures.steps in
     let inv = c.loop-j.invariant in
     let sixteen : length block ≡ 16 = step.0.1.1 ∙ inv.0 in
-    let here = next_chunk n at text block _ (omega arith) (omega arith) (sym inv.2 ∙ step.0.1.0) sixteen in
+    let here = next_chunk_within n at text block _ (omega arith) (omega arith) (sym inv.2 ∙ step.0.1.0) sixteen in
     let full : length stream ≡ 16 = search rules in
     let next : at + 16 ≡ 16 * (j + 1) = omega arith in
     let number : stream ≡ E (counter c.args.q j) = c.stream_block.ensures ∙ ap (λ (i : ℕ). E (counter c.args.q i)) step.1 in
