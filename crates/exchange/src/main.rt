@@ -28,11 +28,11 @@ fn replay(rt: &HostRuntime, text: &str, out: &mut [u8]) -> anyhow::Result<BTreeM
             .entry(verdict.kind)?
             .or_insert(Tally::default())
             .count(&verdict);
-        if let Some(said) = verdict.other {
-            if !told {
-                println!(rt; "first difference: {line}: here {said}")?;
-                told = true;
-            }
+        if let Some(said) = verdict.other
+            && !told
+        {
+            println!(rt; "first difference: {line}: here {said}")?;
+            told = true;
         }
     }
     Ok(tallies)

@@ -11,6 +11,7 @@ use keysets::manager::{Edit, Manager};
 use keysets::registry::{Place, Registry};
 use keysets::validation::validate_key_version;
 use std::alloc::{AllocError, Global};
+use std::iter;
 
 // The words are those left on the tape, the first one first.
 #[derive(Drop)]
@@ -23,22 +24,13 @@ pub struct Bench<'a, M> {
 
 // The words left on a tape that had at most so many.
 fn words_left(heap: Global, tape: &mut Tape, most: usize) -> Result<Vec<u32>, AllocError> {
-    let mut words = Vec::new(heap);
-    for _ in 0..most {
-        let Ok(word) = tape.draw() else {
-            break;
-        };
-        words.push(word)?;
-    }
-    Ok(words)
+    iter::from_fn(|| tape.draw().ok()).take(most).collect(heap)
 }
 
 fn numbers(heap: Global, text: &str) -> anyhow::Result<Vec<u32>> {
-    let mut numbers = Vec::new(heap);
-    for word in text.split_whitespace() {
-        numbers.push(word.parse::<u32>()?)?;
-    }
-    Ok(numbers)
+    text.split_whitespace()
+        .map(|word| -> anyhow::Result<u32> { Ok(word.parse::<u32>()?) })
+        .try_collect(heap)
 }
 
 // A keyset of one new key.

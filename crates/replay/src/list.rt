@@ -34,13 +34,13 @@ pub fn pairs(heap: Global, text: &str) -> anyhow::Result<Vec<Pair<'_>>> {
         .collect::<Vec<(usize, &str)>>(heap)?;
     let (pairs, rest) = lines.as_chunks::<2>();
     ensure!(rest.is_empty(), "the last command has no answer");
-    let mut made = Vec::new(heap);
-    for [(i, command), (_, answer)] in pairs {
-        made.push(Pair {
+    let pairs = pairs
+        .iter()
+        .map(|[(i, command), (_, answer)]| Pair {
             line: i.saturating_add(1),
             command,
             answer,
-        })?;
-    }
-    Ok(made)
+        })
+        .collect(heap)?;
+    Ok(pairs)
 }
