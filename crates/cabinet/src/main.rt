@@ -2,7 +2,7 @@
 // keyset as bytes and reads it back.
 #![tactic(auto)]
 
-use anyhow::anyhow;
+use anyhow::{Context, anyhow};
 use ciphers::aead::Aead;
 use ciphers::draws::{CipherWords, Draws};
 use ciphers::fault::Fault;
@@ -21,30 +21,25 @@ const PLACE: [u8; 11] = *b"junction 41";
 // Thirty-two bytes from eight words, each with its highest byte first.
 fn draw_key<D: Draws>(source: &mut D) -> Result<[u8; 32], Fault> {
     let mut key = [0u8; 32];
-    for i in 0..8 {
-        let [a, b, c, d] = source.draw()?.to_be_bytes();
-        key[4 * i] = a;
-        key[4 * i + 1] = b;
-        key[4 * i + 2] = c;
-        key[4 * i + 3] = d;
+    for word in key.chunks_exact_mut(4) {
+        word.copy_from_slice(&source.draw()?.to_be_bytes());
     }
     Ok(key)
 }
 
-// An answer that should be a refusal, as text.
+// The refusal of a call that has to be refused.
 fn refusal(answer: Result<usize, Fault>) -> anyhow::Result<Fault> {
-    match answer {
-        Ok(_) => Err(anyhow!("a call that has to be refused was accepted")),
-        Err(fault) => Ok(fault),
-    }
+    answer
+        .err()
+        .context("a call that has to be refused was accepted")
 }
 
 fn seal(rt: &HostRuntime, siv: &Siv, plan: &[u8]) -> anyhow::Result<Vec<u8>> {
     let heap = rt.alloc();
     let mut sealed = vec![in heap; 0u8; plan.len().saturating_add(16)]?;
-    let Ok(n) = siv.encrypt(plan, &PLACE, &mut sealed) else {
-        return Err(anyhow!("the plan is too long to be sealed"));
-    };
+    let n = siv
+        .encrypt(plan, &PLACE, &mut sealed)
+        .map_err(|_| anyhow!("the plan is too long to be sealed"))?;
     sealed.truncate(n);
     let shown = sheet::hex(heap, &sealed)?;
     println!(rt; "sealed {n} bytes: {shown}")?;
@@ -53,13 +48,11 @@ fn seal(rt: &HostRuntime, siv: &Siv, plan: &[u8]) -> anyhow::Result<Vec<u8>> {
 
 fn open(rt: &HostRuntime, siv: &Siv, sealed: &[u8]) -> anyhow::Result<()> {
     let mut plain = vec![in rt.alloc(); 0u8; sealed.len()]?;
-    let Ok(n) = siv.decrypt(sealed, &PLACE, &mut plain) else {
-        return Err(anyhow!("the sealed plan does not open"));
-    };
+    let n = siv
+        .decrypt(sealed, &PLACE, &mut plain)
+        .map_err(|_| anyhow!("the sealed plan does not open"))?;
     plain.truncate(n);
-    let Ok(text) = String::from_utf8(plain) else {
-        return Err(anyhow!("the plan is no text"));
-    };
+    let text = String::from_utf8(plain).map_err(|_| anyhow!("the plan is no text"))?;
     let text = text.trim_end();
     println!(rt; "opened {n} bytes: {text}")?;
     Ok(())
@@ -83,9 +76,9 @@ fn destroyed_key(id: u32) -> Result<Keyset, Fault> {
     keyset.primary_key_id = id;
     keyset.key.push(Key {
         key_data: None,
-        status: KeyStatusType::Destroyed.number(),
+        status: KeyStatusType::Destroyed.into(),
         key_id: id,
-        output_prefix_type: OutputPrefixType::Tink.number(),
+        output_prefix_type: OutputPrefixType::Tink.into(),
     })?;
     Ok(keyset)
 }
@@ -105,12 +98,8 @@ fn show_keyset(rt: &HostRuntime, bytes: &[u8]) -> anyhow::Result<()> {
 fn keep_keyset(rt: &HostRuntime) -> anyhow::Result<()> {
     let heap = rt.alloc();
     let mut bytes = vec![in heap; 0u8; 64]?;
-    let Ok(keyset) = destroyed_key(7) else {
-        return Err(anyhow!("the keyset is full"));
-    };
-    let Ok(n) = write(&keyset, &mut bytes) else {
-        return Err(anyhow!("the keyset has no room"));
-    };
+    let keyset = destroyed_key(7).map_err(|_| anyhow!("the keyset is full"))?;
+    let n = write(&keyset, &mut bytes).map_err(|_| anyhow!("the keyset has no room"))?;
     bytes.truncate(n);
     let shown = sheet::hex(heap, &bytes)?;
     println!(rt; "wrote a keyset, {n} bytes: {shown}")?;
@@ -126,9 +115,7 @@ fn run(rt: &HostRuntime) -> anyhow::Result<()> {
     let length = plan.len();
     println!(rt; "read the plan, {length} bytes")?;
     let mut source = CipherWords::new(DEVICE_KEY, 8);
-    let Ok(key) = draw_key(&mut source) else {
-        return Err(anyhow!("the source has too few words"));
-    };
+    let key = draw_key(&mut source).map_err(|_| anyhow!("the source has too few words"))?;
     println!(rt; "drew a key of 8 words")?;
     if let Err(fault) = source.draw() {
         println!(rt; "a ninth word: {fault}")?;

@@ -20,20 +20,14 @@ struct Answered {
 // The key of RFC 5297, appendix A.1.
 fn siv() -> Siv {
     let mut key = [0u8; 32];
-    for i in 0u8..16 {
-        key[usize::from(i)] = 0xff - i;
-        key[usize::from(i) + 16] = 0xf0 + i;
-    }
+    key[..16].copy_from_slice(&0xfffefdfcfbfaf9f8f7f6f5f4f3f2f1f0u128.to_be_bytes());
+    key[16..].copy_from_slice(&0xf0f1f2f3f4f5f6f7f8f9fafbfcfdfeffu128.to_be_bytes());
     Siv::new(key)
 }
 
 // The bytes 0, 1, 2, .., n of them, from 0 again after 255.
 fn counted(heap: Global, n: usize) -> Result<Vec<u8>, AllocError> {
-    let mut v = Vec::new(heap);
-    for i in 0..n {
-        v.push((i % 256) as u8)?;
-    }
-    Ok(v)
+    (0..n).map(|i| (i % 256) as u8).collect(heap)
 }
 
 // Seals counted bytes under a counted text.
@@ -65,9 +59,10 @@ fn open<A: Aead>(
 // Refused for this, and nothing was written.
 fn check_refused(rt: &impl Abort, got: Answered, refusal: Refusal) {
     assert_eq!(rt; got.answer, Err(Fault::new(refusal, Layer::Aead)));
-    for b in &got.out {
-        assert_eq!(rt; *b, BLANK, "the output was written");
-    }
+    assert!(rt;
+        got.out.iter().all(|b| *b == BLANK),
+        "the output was written"
+    );
 }
 
 // Answered n, wrote counted bytes as a plaintext, and kept the rest of the output.

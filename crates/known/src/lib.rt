@@ -1,6 +1,7 @@
 // Worked examples and laws of the standards as theorems: each function's contract is one, and none does anything.
 // They say that the definitions that the ciphers are proved against are the standards' own. They stand in a crate of
-// their own since they are slow to prove.
+// their own since they are slow to prove. Each answer lists what it unfolds: as one attribute here the list is as long, and
+// does not close RFC 5297's.
 #![tactic(auto)]
 
 ghost use Rattle.known.specs.Examples.{Inverts, ZeroStays, TellsApart, At53};

@@ -1,7 +1,7 @@
 // What a call answered, as the list writes it. Places are not written: tink-core has none.
-use crate::hex::Row;
-use ciphers::fault::Fault;
+use ciphers::fault::{Fault, Refusal};
 use encoding::records::KeyId;
+use rows::Row;
 use std::fmt;
 
 #[derive(Drop)]
@@ -15,33 +15,11 @@ pub enum Answer {
     OtherKeyset,
     Primitive(Vec<u8>),
     Key(Vec<u8>),
-    Refused(Fault),
 }
 
-impl Answer {
-    pub fn is_refusal(&self) -> bool {
-        match self {
-            Answer::Refused(_) => true,
-            _ => false,
-        }
-    }
-}
-
-// The answer of a call that gives nothing.
-pub fn done(answer: Result<(), Fault>) -> Answer {
-    match answer {
-        Ok(()) => Answer::Done,
-        Err(fault) => Answer::Refused(fault),
-    }
-}
-
-// The answer of a call that gives an id.
-pub fn id(answer: Result<KeyId, Fault>) -> Answer {
-    match answer {
-        Ok(id) => Answer::Id(id),
-        Err(fault) => Answer::Refused(fault),
-    }
-}
+// An answer or a refusal, as it prints.
+#[derive(Clone, Copy)]
+pub struct Said<'a>(pub &'a Result<Answer, Fault>);
 
 fn write_words<W: fmt::Write>(words: &[u32], f: &mut fmt::Formatter<W>) -> fmt::Result {
     f.write_str("words")?;
@@ -53,18 +31,11 @@ fn write_words<W: fmt::Write>(words: &[u32], f: &mut fmt::Formatter<W>) -> fmt::
 
 // A key manager's reason follows its number.
 fn write_fault<W: fmt::Write>(fault: &Fault, f: &mut fmt::Formatter<W>) -> fmt::Result {
-    let number = fault.number();
-    let letter = fault.letter();
-    if number == 16 {
-        let reason = fault.reason;
-        return write!(f, "refused {number} {letter} {reason}");
+    write!(f, "refused {} {}", fault.number(), fault.letter())?;
+    if fault.refusal == Refusal::KeyManagerReason {
+        write!(f, " {}", fault.reason)?;
     }
-    write!(f, "refused {number} {letter}")
-}
-
-fn write_row<W: fmt::Write>(name: &str, row: &[u8], f: &mut fmt::Formatter<W>) -> fmt::Result {
-    let row = Row(row);
-    write!(f, "{name} {row}")
+    Ok(())
 }
 
 impl fmt::Display for Answer {
@@ -74,11 +45,19 @@ impl fmt::Display for Answer {
             Answer::Id(id) => write!(f, "ok {id}"),
             Answer::Count(count) => write!(f, "count {count}"),
             Answer::Words(words) => write_words(words, f),
-            Answer::Keyset(row) => write_row("keyset", row, f),
+            Answer::Keyset(row) => write!(f, "keyset {}", Row(row)),
             Answer::OtherKeyset => f.write_str("keyset another one"),
-            Answer::Primitive(row) => write_row("primitive", row, f),
-            Answer::Key(row) => write_row("key", row, f),
-            Answer::Refused(fault) => write_fault(fault, f),
+            Answer::Primitive(row) => write!(f, "primitive {}", Row(row)),
+            Answer::Key(row) => write!(f, "key {}", Row(row)),
+        }
+    }
+}
+
+impl fmt::Display for Said<'_> {
+    fn fmt<W: fmt::Write>(&self, f: &mut fmt::Formatter<W>) -> fmt::Result {
+        match self.0 {
+            Ok(answer) => write!(f, "{answer}"),
+            Err(fault) => write_fault(fault, f),
         }
     }
 }

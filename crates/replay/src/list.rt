@@ -1,8 +1,6 @@
 // The list: pairs of lines, a command and the answer that tink-core gave. Blank lines and lines that begin with `#` are
 // passed over.
-ghost use Rattle.std.specs.Prelude.{◌<◌, ◌≤◌, length};
-
-use anyhow::anyhow;
+use anyhow::ensure;
 use std::alloc::Global;
 
 #[derive(Clone, Copy)]
@@ -13,55 +11,36 @@ pub struct Pair<'a> {
     pub answer: &'a str,
 }
 
+impl Pair<'_> {
+    pub fn begins_case(&self) -> bool {
+        self.command.starts_with("case ")
+    }
+
+    // Whether it registers the type of public halves of chip keys.
+    pub fn registers_chips(&self) -> bool {
+        self.command == "register junction/chip-public"
+    }
+}
+
 fn is_passed_over(line: &str) -> bool {
     line.is_empty() || line.starts_with('#')
 }
 
 pub fn pairs(heap: Global, text: &str) -> anyhow::Result<Vec<Pair<'_>>> {
-    let mut pairs = Vec::new(heap);
-    let mut waiting = None;
-    for (i, line) in text.lines().enumerate() {
-        if is_passed_over(line) {
-            continue;
-        }
-        match waiting {
-            None => waiting = Some((i.saturating_add(1), line)),
-            Some((line_number, command)) => {
-                pairs.push(Pair {
-                    line: line_number,
-                    command,
-                    answer: line,
-                })?;
-                waiting = None;
-            }
-        }
-    }
-    if waiting.is_some() {
-        return Err(anyhow!("the last command has no answer"));
-    }
+    let lines = text
+        .lines()
+        .enumerate()
+        .filter(|(_, line)| !is_passed_over(line))
+        .collect::<Vec<(usize, &str)>>(heap)?;
+    let (pairs, rest) = lines.as_chunks::<2>();
+    ensure!(rest.is_empty(), "the last command has no answer");
+    let pairs = pairs
+        .iter()
+        .map(|[(i, command), (_, answer)]| Pair {
+            line: i.saturating_add(1),
+            command,
+            answer,
+        })
+        .collect(heap)?;
     Ok(pairs)
-}
-
-// Where the case that begins at `from` ends.
-pub fn end_of_case(pairs: &[Pair], from: usize) -> usize
-    requires { from < length pairs.now }
-    ensures beyond { from < result }
-    ensures within { result ≤ length pairs.now }
-{
-    for i in from + 1..pairs.len() {
-        if pairs[i].command.starts_with("case ") {
-            return i;
-        }
-    }
-    pairs.len()
-}
-
-// Whether a case registers the type of public halves of chip keys.
-pub fn registers_chips(pairs: &[Pair]) -> bool {
-    for i in 0..pairs.len() {
-        if pairs[i].command == "register junction/chip-public" {
-            return true;
-        }
-    }
-    false
 }

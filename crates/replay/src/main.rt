@@ -2,17 +2,15 @@
 // standard input, or from the file that the first argument names; docs/replay.md has its form.
 #![tactic(auto)]
 
-use crate::tally::Tally;
-use anyhow::anyhow;
 use std::{env, fs, io};
 
 mod answer;
 mod bench;
-mod hex;
 mod kind;
 mod list;
 mod replay;
 mod script;
+mod stop;
 mod tally;
 
 fn input(rt: &HostRuntime) -> anyhow::Result<String> {
@@ -24,22 +22,12 @@ fn input(rt: &HostRuntime) -> anyhow::Result<String> {
     }
 }
 
-fn verdict(tally: &Tally) -> anyhow::Result<()> {
-    if tally.cases == 0 {
-        return Err(anyhow!("the list has no case"));
-    }
-    if tally.differences > 0 {
-        return Err(anyhow!("the library answers otherwise than tink-core"));
-    }
-    Ok(())
-}
-
 fn run(rt: &HostRuntime) -> anyhow::Result<()> {
     let text = input(rt)?;
     let pairs = list::pairs(rt.alloc(), text.as_str())?;
     let tally = replay::cases(rt.alloc(), &pairs)?;
     tally.print(rt)?;
-    verdict(&tally)
+    tally.verdict()
 }
 
 fn main(rt: HostRuntime) -> anyhow::Result<()> {

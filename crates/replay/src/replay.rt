@@ -1,79 +1,22 @@
 // Goes through the cases of a list.
 use crate::answer::Answer;
-use crate::bench::{Bench, Outcome};
+use crate::bench::Bench;
 use crate::kind::Kind;
-use crate::list::{Pair, end_of_case, registers_chips};
-use crate::script;
-use crate::tally::{Difference, Tally};
-use anyhow::anyhow;
+use crate::list::Pair;
+use crate::script::Command;
+use crate::stop::Stop;
+use crate::tally::Tally;
+use anyhow::{Context, anyhow, ensure};
 use keysets::registry::Place;
 use keysets::registry::chip_public::ChipPublic;
 use keysets::registry::cmac128::Cmac128;
-use std::alloc::{AllocError, Global};
+use std::alloc::Global;
 
-fn difference(
-    heap: Global,
-    case: &str,
-    pair: Pair,
-    ours: String,
-) -> Result<Difference, AllocError> {
-    Ok(Difference {
-        case: String::from_str(heap, case)?,
-        line: pair.line,
-        command: String::from_str(heap, pair.command)?,
-        theirs: String::from_str(heap, pair.answer)?,
-        ours,
-    })
-}
-
-// Holds an answer to the list's.
-fn compare(
-    heap: Global,
-    tally: &mut Tally,
-    case: &str,
-    pair: Pair,
-    answer: &Answer,
-) -> Result<(), AllocError> {
-    let ours = format!(in heap; "{answer}")?;
-    tally.compare(answer.is_refusal());
-    if ours.as_str() != pair.answer {
-        tally.differ(difference(heap, case, pair, ours)?);
-    }
-    Ok(())
-}
-
-// What came of a call.
-fn carry_out<M: Kind>(heap: Global, bench: &mut Bench<M>, pair: Pair) -> anyhow::Result<Outcome> {
+fn carry_out<M: Kind>(bench: &mut Bench<M>, pair: Pair) -> Result<Answer, Stop> {
     if pair.answer.starts_with("error") || pair.answer.starts_with("refused ?") {
-        return Err(anyhow!("the list has no answer to the command"));
+        return Err(Stop::Failed(anyhow!("the list has no answer to the command")));
     }
-    let command = script::parse(pair.command)?;
-    bench.run(heap, command, pair.answer)
-}
-
-// Counts what came of it: whether the library's state still is tink-core's.
-fn count(
-    heap: Global,
-    tally: &mut Tally,
-    case: &str,
-    pair: Pair,
-    outcome: &Outcome,
-) -> Result<bool, AllocError> {
-    let (name, _) = script::split(pair.command);
-    match outcome {
-        Outcome::Said(answer) => {
-            compare(heap, tally, case, pair, answer)?;
-            Ok(true)
-        }
-        Outcome::LeftOut => {
-            tally.leave_out(heap, name)?;
-            Ok(true)
-        }
-        Outcome::Lost => {
-            tally.leave_out(heap, name)?;
-            Ok(false)
-        }
-    }
+    bench.run(Command::parse(pair.command)?, pair.answer)
 }
 
 // An error, with the line where it arose.
@@ -81,17 +24,24 @@ fn in_line(line: usize, error: anyhow::Error) -> anyhow::Error {
     anyhow!("line {line}: {error}")
 }
 
+// Carries a call out and counts what came of it: whether the library's state still is tink-core's.
 fn call<M: Kind>(
-    heap: Global,
     bench: &mut Bench<M>,
     tally: &mut Tally,
     case: &str,
     pair: Pair,
 ) -> anyhow::Result<bool> {
-    match carry_out(heap, bench, pair) {
-        Ok(outcome) => Ok(count(heap, tally, case, pair, &outcome)?),
-        Err(error) => Err(in_line(pair.line, error)),
+    match carry_out(bench, pair) {
+        Ok(answer) => tally.compare(case, pair, &Ok(answer))?,
+        Err(Stop::Refused(fault)) => tally.compare(case, pair, &Err(fault))?,
+        Err(Stop::LeftOut) => tally.leave_out(pair)?,
+        Err(Stop::Lost) => {
+            tally.leave_out(pair)?;
+            return Ok(false);
+        }
+        Err(Stop::Failed(error)) => return Err(in_line(pair.line, error)),
     }
+    Ok(true)
 }
 
 fn calls<M: Kind>(
@@ -103,63 +53,46 @@ fn calls<M: Kind>(
 ) -> anyhow::Result<()> {
     let mut bench = Bench::new(heap, bank);
     let mut follows = true;
-    for i in 1..pairs.len() {
-        if !follows {
-            tally.lost = tally.lost.saturating_add(1);
-            continue;
+    for pair in pairs {
+        if follows {
+            follows = call(&mut bench, tally, case, *pair)?;
+        } else {
+            tally.lose();
         }
-        follows = call(heap, &mut bench, tally, case, pairs[i])?;
     }
     Ok(())
 }
 
-fn with_macs(heap: Global, tally: &mut Tally, case: &str, pairs: &[Pair]) -> anyhow::Result<()> {
-    let mut bank = [Place::new(Cmac128)];
-    calls(heap, &mut bank, tally, case, pairs)
-}
-
-fn with_chips(heap: Global, tally: &mut Tally, case: &str, pairs: &[Pair]) -> anyhow::Result<()> {
-    let mut bank = [Place::new(ChipPublic)];
-    calls(heap, &mut bank, tally, case, pairs)
-}
-
 // The name of the case that a pair begins.
 fn case_name<'a>(pair: Pair<'a>) -> anyhow::Result<&'a str> {
-    let Some(name) = pair.command.strip_prefix("case ") else {
-        return Err(anyhow!("the list does not begin with a case"));
-    };
-    if pair.answer != pair.command {
-        return Err(anyhow!("a case is not answered by itself: the pairs are out of step"));
-    }
+    let name = pair
+        .command
+        .strip_prefix("case ")
+        .context("the list does not begin with a case")?;
+    ensure!(
+        pair.answer == pair.command,
+        "a case is not answered by itself: the pairs are out of step"
+    );
     Ok(name)
 }
 
 fn case(heap: Global, tally: &mut Tally, pairs: &[Pair]) -> anyhow::Result<()> {
-    if pairs.len() == 0 {
+    let [first, rest @ ..] = pairs else {
         return Ok(());
-    }
-    let first = pairs[0];
-    let name = match case_name(first) {
-        Ok(name) => name,
-        Err(error) => return Err(in_line(first.line, error)),
     };
-    tally.cases = tally.cases.saturating_add(1);
-    if registers_chips(pairs) {
-        return with_chips(heap, tally, name, pairs);
+    let name = case_name(*first).map_err(|error| in_line(first.line, error))?;
+    tally.begin();
+    if rest.iter().any(|pair| pair.registers_chips()) {
+        calls(heap, &mut [Place::new(ChipPublic)], tally, name, rest)
+    } else {
+        calls(heap, &mut [Place::new(Cmac128)], tally, name, rest)
     }
-    with_macs(heap, tally, name, pairs)
 }
 
 pub fn cases(heap: Global, pairs: &[Pair]) -> anyhow::Result<Tally> {
     let mut tally = Tally::new(heap);
-    let mut from = 0;
-    for _ in 0..pairs.len() {
-        if from >= pairs.len() {
-            break;
-        }
-        let to = end_of_case(pairs, from);
-        case(heap, &mut tally, &pairs[from..to])?;
-        from = to;
+    for pairs in pairs.chunk_by(|_, next| !next.begins_case()) {
+        case(heap, &mut tally, pairs)?;
     }
     Ok(tally)
 }

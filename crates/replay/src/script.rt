@@ -1,5 +1,5 @@
 // A line of the script: the call that it names, and what the call is given. Byte rows and a tape stay as they are written.
-use anyhow::anyhow;
+use anyhow::{Context, bail, ensure};
 use encoding::records::KeyId;
 use keysets::manager::Edit;
 use std::str::SplitWhitespace;
@@ -38,127 +38,94 @@ pub enum Command<'a> {
     Other { harmless: bool },
 }
 
-fn word<'a>(words: &mut SplitWhitespace<'a>) -> anyhow::Result<&'a str> {
-    match words.next() {
-        Some(word) => Ok(word),
-        None => Err(anyhow!("the command has too few words")),
+// The words of a line that are still to be read.
+#[derive(Drop)]
+struct Words<'a>(SplitWhitespace<'a>);
+
+impl<'a> Words<'a> {
+    fn word(&mut self) -> anyhow::Result<&'a str> {
+        self.0.next().context("the command has too few words")
     }
-}
 
-fn number(words: &mut SplitWhitespace) -> anyhow::Result<u32> {
-    Ok(word(words)?.parse::<u32>()?)
-}
-
-// A `-` is the empty one.
-fn type_url<'a>(words: &mut SplitWhitespace<'a>) -> anyhow::Result<&'a [u8]> {
-    match word(words)? {
-        "-" => Ok(b""),
-        text => Ok(text.as_bytes()),
+    fn number(&mut self) -> anyhow::Result<u32> {
+        Ok(self.word()?.parse::<u32>()?)
     }
-}
 
-// A type URL, a prefix type and a value.
-fn template<'a>(words: &mut SplitWhitespace<'a>) -> anyhow::Result<Asked<'a>> {
-    let type_url = type_url(words)?;
-    let prefix = word(words)?.parse::<i32>()?;
-    let value = word(words)?;
-    Ok(Asked {
-        type_url,
-        prefix,
-        value,
-    })
-}
-
-// A type URL and a value.
-fn key<'a>(words: &mut SplitWhitespace<'a>) -> anyhow::Result<Asked<'a>> {
-    let type_url = type_url(words)?;
-    let value = word(words)?;
-    Ok(Asked {
-        type_url,
-        prefix: 0,
-        value,
-    })
-}
-
-fn is_primary(words: &mut SplitWhitespace) -> anyhow::Result<bool> {
-    match words.next() {
-        None => Ok(false),
-        Some("primary") => Ok(true),
-        Some(_) => Err(anyhow!("the word after a template is not `primary`")),
+    // A `-` is the empty one.
+    fn type_url(&mut self) -> anyhow::Result<&'a [u8]> {
+        match self.word()? {
+            "-" => Ok(b""),
+            text => Ok(text.as_bytes()),
+        }
     }
-}
 
-fn add<'a>(words: &mut SplitWhitespace<'a>) -> anyhow::Result<Command<'a>> {
-    let asked = template(words)?;
-    let primary = is_primary(words)?;
-    Ok(Command::Make(Making::Add { primary }, asked))
-}
-
-fn version<'a>(words: &mut SplitWhitespace<'a>) -> anyhow::Result<Command<'a>> {
-    let version = number(words)?;
-    let highest = number(words)?;
-    Ok(Command::Version { version, highest })
-}
-
-fn edit(name: &str) -> Option<Edit> {
-    match name {
-        "enable" => Some(Edit::Enable),
-        "disable" => Some(Edit::Disable),
-        "destroy" => Some(Edit::Destroy),
-        "delete" => Some(Edit::Delete),
-        "primary" => Some(Edit::SetPrimary),
-        _ => None,
+    // A type URL, a prefix type and a value.
+    fn template(&mut self) -> anyhow::Result<Asked<'a>> {
+        Ok(Asked {
+            type_url: self.type_url()?,
+            prefix: self.word()?.parse::<i32>()?,
+            value: self.word()?,
+        })
     }
-}
 
-// These leave the keyset as it was, whatever they answer.
-fn is_harmless(name: &str) -> bool {
-    match name {
-        "build" | "info" | "seal" | "store" | "reduced" => true,
-        _ => false,
+    // A type URL and a value.
+    fn key(&mut self) -> anyhow::Result<Asked<'a>> {
+        Ok(Asked {
+            type_url: self.type_url()?,
+            prefix: 0,
+            value: self.word()?,
+        })
     }
-}
 
-// The commands of one word.
-fn plain<'a>(name: &'a str) -> Command<'a> {
-    match name {
-        "words" => Command::Words,
-        "keyset" => Command::Keyset,
-        "count" => Command::Count,
-        "validate" => Command::Validate,
-        _ => Command::Other {
-            harmless: is_harmless(name),
-        },
+    fn is_primary(&mut self) -> anyhow::Result<bool> {
+        match self.0.next() {
+            None => Ok(false),
+            Some("primary") => Ok(true),
+            Some(_) => bail!("the word after a template is not `primary`"),
+        }
     }
-}
 
-fn with_template<'a>(
-    name: &'a str,
-    words: &mut SplitWhitespace<'a>,
-) -> anyhow::Result<Command<'a>> {
-    match name {
-        "add" => add(words),
-        "rotate" => Ok(Command::Make(Making::Rotate, template(words)?)),
-        "new" => Ok(Command::Make(Making::New, template(words)?)),
-        "newkey" => Ok(Command::Make(Making::NewKey, key(words)?)),
-        _ => Ok(plain(name)),
+    fn add(&mut self) -> anyhow::Result<Command<'a>> {
+        let asked = self.template()?;
+        let primary = self.is_primary()?;
+        Ok(Command::Make(Making::Add { primary }, asked))
     }
-}
 
-fn with_words<'a>(name: &'a str, words: &mut SplitWhitespace<'a>) -> anyhow::Result<Command<'a>> {
-    match name {
-        "register" => Ok(Command::Register(type_url(words)?)),
-        "key" => Ok(Command::Primitive(key(words)?)),
-        "load" => Ok(Command::Load(word(words)?)),
-        "version" => version(words),
-        _ => with_template(name, words),
+    fn version(&mut self) -> anyhow::Result<Command<'a>> {
+        Ok(Command::Version {
+            version: self.number()?,
+            highest: self.number()?,
+        })
     }
-}
 
-fn any<'a>(name: &'a str, words: &mut SplitWhitespace<'a>) -> anyhow::Result<Command<'a>> {
-    match edit(name) {
-        Some(edit) => Ok(Command::Edit(edit, number(words)?)),
-        None => with_words(name, words),
+    fn edit(&mut self, edit: Edit) -> anyhow::Result<Command<'a>> {
+        Ok(Command::Edit(edit, self.number()?))
+    }
+
+    fn command(&mut self, name: &str) -> anyhow::Result<Command<'a>> {
+        match name {
+            "register" => Ok(Command::Register(self.type_url()?)),
+            "words" => Ok(Command::Words),
+            "add" => self.add(),
+            "rotate" => Ok(Command::Make(Making::Rotate, self.template()?)),
+            "new" => Ok(Command::Make(Making::New, self.template()?)),
+            "newkey" => Ok(Command::Make(Making::NewKey, self.key()?)),
+            "key" => Ok(Command::Primitive(self.key()?)),
+            "load" => Ok(Command::Load(self.word()?)),
+            "enable" => self.edit(Edit::Enable),
+            "disable" => self.edit(Edit::Disable),
+            "destroy" => self.edit(Edit::Destroy),
+            "delete" => self.edit(Edit::Delete),
+            "primary" => self.edit(Edit::SetPrimary),
+            "keyset" => Ok(Command::Keyset),
+            "count" => Ok(Command::Count),
+            "validate" => Ok(Command::Validate),
+            "version" => self.version(),
+            "build" | "info" | "seal" | "store" | "reduced" => {
+                Ok(Command::Other { harmless: true })
+            }
+            _ => Ok(Command::Other { harmless: false }),
+        }
     }
 }
 
@@ -167,23 +134,17 @@ pub fn split(line: &str) -> (&str, &str) {
     line.split_once(' ').unwrap_or((line, ""))
 }
 
-fn check_end(command: Command, words: &mut SplitWhitespace) -> anyhow::Result<()> {
-    match command {
-        Command::Other { harmless: _ } => Ok(()),
-        _ => match words.next() {
-            Some(_) => Err(anyhow!("the command has too many words")),
-            None => Ok(()),
-        },
+impl<'a> Command<'a> {
+    pub fn parse(line: &'a str) -> anyhow::Result<Command<'a>> {
+        let (name, rest) = split(line);
+        if name == "tape" {
+            return Ok(Command::Tape(rest));
+        }
+        let mut words = Words(rest.split_whitespace());
+        let command = words.command(name)?;
+        if !matches!(command, Command::Other { .. }) {
+            ensure!(words.0.next().is_none(), "the command has too many words");
+        }
+        Ok(command)
     }
-}
-
-pub fn parse(line: &str) -> anyhow::Result<Command<'_>> {
-    let (name, rest) = split(line);
-    if name == "tape" {
-        return Ok(Command::Tape(rest));
-    }
-    let mut words = rest.split_whitespace();
-    let command = any(name, &mut words)?;
-    check_end(command, &mut words)?;
-    Ok(command)
 }

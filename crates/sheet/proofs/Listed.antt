@@ -1,21 +1,9 @@
 -- The lines of a keyset, one key longer.
-use Rattle.std.proofs.Common.{◌≡◌, ℕ, zero, suc, ◌+◌, ◌≤◌, eqb, List, [], ◌∷◌, ◌++◌, length, drop, ℤ, Some, None, Option, sym, refl, ap, ◌∙◌, append_assoc, arith}
-use Rattle.std.specs.Option.{option_map}
+use Rattle.std.proofs.Common.{◌≡◌, ℕ, zero, suc, ◌+◌, ◌≤◌, List, [], ◌∷◌, ◌++◌, length, drop, sym, refl, ap, ◌∙◌, append_assoc, arith}
 use Rattle.std.proofs.lemmas.List.{append-nil}
 use Rattle.encoding.specs.Lists.{item}
 use Rattle.encoding.specs.Meanings.{KeyMeaning}
-use Rattle.encoding.specs.Kinds.{status_of, prefix_of}
-use Rattle.sheet.specs.Rows.{status_text, prefix_text, mark_text, row, rows, row_of}
-
--- the row of a key, by what was read of it
-pub row_is : (p : ℕ) (o : Option KeyMeaning) (id : ℕ) (st pr : ℤ) → Some id ≡ option_map (λ (k : KeyMeaning). k.key_id) o → Some st ≡ option_map (λ (k : KeyMeaning). k.status) o
-    → Some pr ≡ option_map (λ (k : KeyMeaning). k.output_prefix_type) o → row (mark_text (eqb id p)) id (status_text (status_of st)) (prefix_text (prefix_of pr)) ≡ row_of p o
-row_is p None id st pr e f g = let z : ◌≡◌ {A = ℕ} 0 1 = cc in absurd (omega arith)
-row_is p (Some k) id st pr e f g =
-    let same_id : id ≡ k.key_id = cc in
-    let same-status : st ≡ k.status = cc in
-    let same-prefix : pr ≡ k.output_prefix_type = cc in
-    λ i. row (mark_text (eqb (same_id i) p)) (same_id i) (status_text (status_of (same-status i))) (prefix_text (prefix_of (same-prefix i)))
+use Rattle.sheet.specs.Rows.{rows, row_of}
 
 -- the rows before a position and those from it on are all rows
 pub rows_step : (p : ℕ) (ks : List KeyMeaning) (i : ℕ) → rows p (drop i ks) ≡ row_of p (item ks i) ++ rows p (drop (suc i) ks)

@@ -1,15 +1,30 @@
--- Hexadecimal text one byte longer, and that it tells bytes apart.
-use Rattle.std.proofs.Common.{◌≡◌, ℕ, suc, ◌+◌, ◌/◌, ◌%◌, ◌<◌, List, [], ◌∷◌, ◌++◌, length, get_or, take, refl, ap, ◌∙◌, arith}
-use Rattle.std.proofs.lemmas.List.{take_more}
+-- Hexadecimal text as the library `hex` encodes it, and that it tells bytes apart.
+use Rattle.std.proofs.Common.{◌≡◌, ℕ, suc, ◌/◌, ◌%◌, ◌<◌, List, [], ◌∷◌, get_or, map, refl, sym, ap, ◌∙◌, arith, zero-add}
+use Rattle.std.specs.List.{range_with_len}
+use Rattle.std.proofs.lemmas.List.FromFn.{get_or-map-range_with_len}
 use Rattle.std.proofs.lemmas.Bool.Decides.{nat_tests}
-use Rattle.sheet.specs.Hex.{digit_code, byte_codes, hex_codes, TellsBytes}
+use Rattle.hex.specs.Hex.{lower_digits, encode_lower, encode_with}
+use Rattle.sheet.specs.Hex.{digit_code, hex_codes, Bytes, TellsBytes}
 
-hex_codes-append : (xs ys : List ℕ) → hex_codes (xs ++ ys) ≡ hex_codes xs ++ hex_codes ys
-hex_codes-append [] ys = refl
-hex_codes-append (b ∷ xs) ys = ap (λ (l : List ℕ). byte_codes b ++ l) (hex_codes-append xs ys)
+abbrev table_digit : ℕ → ℕ
+table_digit n = get_or lower_digits n 0
 
-pub hex_codes_more : (xs : List ℕ) (i : ℕ) → i < length xs → hex_codes (take (i + 1) xs) ≡ hex_codes (take i xs) ++ byte_codes (get_or xs i 0)
-hex_codes_more xs i h = ap hex_codes (take_more xs i 0 h) ∙ hex_codes-append (take i xs) (get_or xs i 0 ∷ [])
+same_table : map table_digit (range_with_len 0 16) ≡ map digit_code (range_with_len 0 16)
+same_table = refl
+
+table_digit_is : (n : ℕ) → n < 16 → table_digit n ≡ digit_code n
+table_digit_is n h =
+    sym (get_or-map-range_with_len table_digit 0 16 n n 0 h (zero-add n)) ∙ (ap (λ (l : List ℕ). get_or l n 0) same_table ∙ get_or-map-range_with_len digit_code 0 16 n n 0 h (zero-add n))
+
+pub encoded : (xs : List ℕ) → Bytes xs → encode_lower xs ≡ hex_codes xs
+unfolding encode_with
+encoded [] h = refl
+encoded (b ∷ xs) h =
+    let small : b < 256 = h 0 in
+    let high = table_digit_is (b / 16) (omega arith) in
+    let low = table_digit_is (b % 16) (omega arith) in
+    let rest = encoded xs (λ k. h (suc k)) in
+    (λ i. high i ∷ low i ∷ rest i)
 
 same_digit : (m n : ℕ) → m < 16 → n < 16 → digit_code m ≡ digit_code n → m ≡ n
 same_digit m n hm hn e = grind (arith, nat_tests)

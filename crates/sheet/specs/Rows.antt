@@ -6,6 +6,7 @@ use Rattle.encoding.specs.declared.numbers.KeyStatusType.TheVariants.{Enabled, D
 use Rattle.encoding.specs.declared.numbers.OutputPrefixType.{OutputPrefixType}
 use Rattle.encoding.specs.declared.numbers.OutputPrefixType.TheVariants.{Tink, Legacy, Raw, Crunchy}
 use Rattle.encoding.specs.Kinds.{status_of, prefix_of}
+use Rattle.sheet.specs.declared.keys.Row.{Row}
 
 abbrev pub status_text : Option KeyStatusType → List ℕ
 status_text (Some Enabled) = codes "Enabled"
@@ -25,6 +26,14 @@ mark_text primary = cond primary (codes " primary") []
 
 abbrev pub row : List ℕ → ℕ → List ℕ → List ℕ → List ℕ
 row mark id status prefix = decimal id ++ (codes " " ++ (status ++ (codes " " ++ (prefix ++ (mark ++ codes "\n")))))
+
+-- the row that the program prints
+abbrev pub text_of : Row → List ℕ
+text_of r = row (mark_text r.is_primary) r.id (status_text (status_of r.status)) (prefix_text (prefix_of r.prefix))
+
+abbrev pub listed : Option Row → List ℕ
+listed None = []
+listed (Some r) = text_of r
 
 abbrev pub key_row : ℕ → KeyMeaning → List ℕ
 key_row primary k = row (mark_text (k.key_id == primary)) k.key_id (status_text (status_of k.status)) (prefix_text (prefix_of k.output_prefix_type))

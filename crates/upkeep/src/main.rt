@@ -28,17 +28,13 @@ fn tell(rt: &HostRuntime, call: &str, answer: Result<(), Fault>) -> anyhow::Resu
 }
 
 fn made(answer: Result<KeyId, Fault>) -> anyhow::Result<KeyId> {
-    match answer {
-        Ok(id) => Ok(id),
-        Err(_) => Err(anyhow!("a key could not be made")),
-    }
+    answer.map_err(|_| anyhow!("a key could not be made"))
 }
 
 fn template(url: &[u8]) -> anyhow::Result<KeyTemplate> {
-    match KeyTemplate::new(url, b"", OutputPrefixType::Tink.number()) {
-        Ok(template) => Ok(template),
-        Err(_) => Err(anyhow!("the template is past a limit")),
-    }
+    KeyTemplate::new(url, b"", OutputPrefixType::Tink.into()).map_err(|_| anyhow!(
+        "the template is past a limit"
+    ))
 }
 
 // The primary key stays as it is, and the other one goes through all that may happen to a key.

@@ -2,22 +2,22 @@
 #![tactic(auto)]
 
 use crate::vector::Vector;
-use anyhow::anyhow;
+use anyhow::ensure;
 use std::fs;
 
 mod failure;
-mod hex;
 mod run;
 mod vector;
+
+fn is_vector(line: &str) -> bool {
+    !line.is_empty() && !line.starts_with('#')
+}
 
 fn run_all(rt: &HostRuntime) -> anyhow::Result<()> {
     let text = fs::read_to_string(rt, "vectors.txt")?;
     let mut all = 0u32;
     let mut good = 0u32;
-    for line in text.lines() {
-        if line.is_empty() || line.starts_with('#') {
-            continue;
-        }
+    for line in text.lines().filter(|line| is_vector(line)) {
         let vector = match Vector::parse(rt.alloc(), line) {
             Ok(vector) => vector,
             Err(error) => {
@@ -36,12 +36,8 @@ fn run_all(rt: &HostRuntime) -> anyhow::Result<()> {
         }
     }
     println!(rt; "{good} of {all} vectors ok")?;
-    if all == 0 {
-        return Err(anyhow!("the file has no vector"));
-    }
-    if good < all {
-        return Err(anyhow!("a vector failed"));
-    }
+    ensure!(all > 0, "the file has no vector");
+    ensure!(good == all, "a vector failed");
     Ok(())
 }
 

@@ -5,6 +5,7 @@ use ciphers::aead::Aead;
 use ciphers::aes::Aes128;
 use ciphers::cmac::Cmac;
 use ciphers::ctr;
+use ciphers::fault::{Fault, Layer, Refusal};
 use ciphers::siv::Siv;
 use std::alloc::Global;
 
@@ -12,10 +13,9 @@ use std::alloc::Global;
 fn aes(heap: Global, key: [u8; 16], plaintext: &[u8], ciphertext: &[u8]) -> Result<(), Failure> {
     let aes = Aes128::new(key);
     let mut out = Vec::new(heap);
-    for text in plaintext.chunks_exact(16) {
-        let mut block = [0u8; 16];
-        block.copy_from_slice(text);
-        out.extend_from_slice(&aes.encrypt(block))?;
+    let (blocks, _) = plaintext.as_chunks::<16>();
+    for block in blocks {
+        out.extend_from_slice(&aes.encrypt(*block))?;
     }
     agree(heap, "the ciphertext", ciphertext, &out)
 }
@@ -43,13 +43,13 @@ fn cmac(heap: Global, key: [u8; 16], message: &[u8], tag: [u8; 16]) -> Result<()
     let mac = Cmac::new(key);
     agree(heap, "the tag", &tag, &mac.tag(message))?;
     let mut bytewise = mac.start();
-    for cut in 0..message.len() {
+    for (cut, byte) in message.iter().enumerate() {
         let (front, back) = message.split_at(cut);
         let mut running = mac.start();
         running.absorb(front);
         running.absorb(back);
         agree(heap, "the tag in two pieces", &tag, &running.finish())?;
-        bytewise.absorb(&[message[cut]]);
+        bytewise.absorb(&[*byte]);
     }
     agree(heap, "the tag byte by byte", &tag, &bytewise.finish())
 }
@@ -58,18 +58,18 @@ fn cmac(heap: Global, key: [u8; 16], message: &[u8], tag: [u8; 16]) -> Result<()
 fn siv_damaged(heap: Global, siv: &Siv, data: &[u8], output: &[u8]) -> Result<(), Failure> {
     for at in 0..output.len() {
         let mut copy = output.to_vec(heap)?;
+        copy[at] ^= 1;
         let mut out = vec![in heap; 0u8; output.len()]?;
-        if let Some(b) = copy.get_mut(at) {
-            *b ^= 1;
-        }
-        match siv.decrypt(&copy, data, &mut out) {
-            Err(fault) if fault.number() == 22 && fault.letter() == 'A' => {}
-            _ => return Err(Failure::Accepted),
-        }
-        for b in &out {
-            if *b != 0 {
-                return Err(Failure::Accepted);
-            }
+        let refused = matches!(
+            siv.decrypt(&copy, data, &mut out),
+            Err(Fault {
+                refusal: Refusal::DoesNotOpen,
+                layer: Layer::Aead,
+                ..
+            })
+        );
+        if !refused || out.iter().any(|b| *b != 0) {
+            return Err(Failure::Accepted);
         }
     }
     Ok(())

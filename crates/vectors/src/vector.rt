@@ -1,6 +1,5 @@
 // A line of the file: the call that it is for, and the rows of that call.
-use crate::hex;
-use anyhow::{Context, anyhow};
+use anyhow::{Context, anyhow, bail, ensure};
 use std::alloc::Global;
 use std::str::SplitWhitespace;
 
@@ -36,82 +35,60 @@ pub enum Call {
     },
 }
 
-// The next row.
-fn row(heap: Global, words: &mut SplitWhitespace) -> anyhow::Result<Vec<u8>> {
-    hex::read(heap, words.next().context("a line has too few rows")?)
+// The rows of a line that are still to be read.
+#[derive(Drop)]
+struct Rows<'a> {
+    heap: Global,
+    words: SplitWhitespace<'a>,
 }
 
-// The next row, of N bytes.
-fn array<const N: usize>(heap: Global, words: &mut SplitWhitespace) -> anyhow::Result<[u8; N]> {
-    let v = row(heap, words)?;
-    if v.len() != N {
-        return Err(anyhow!("a key, a counter or a tag has another length"));
+impl Rows<'_> {
+    fn row(&mut self) -> anyhow::Result<Vec<u8>> {
+        let text = self.words.next().context("a line has too few rows")?;
+        Ok(rows::read(self.heap, text)?)
     }
-    let mut a = [0u8; N];
-    a.copy_from_slice(&v);
-    Ok(a)
-}
 
-// The next row, of whole blocks.
-fn blocks(heap: Global, words: &mut SplitWhitespace) -> anyhow::Result<Vec<u8>> {
-    let v = row(heap, words)?;
-    if v.len() % 16 != 0 {
-        return Err(anyhow!("a text is not of whole blocks"));
+    // A row of N bytes.
+    fn array<const N: usize>(&mut self) -> anyhow::Result<[u8; N]> {
+        <[u8; N]>::try_from(self.row()?).map_err(|_| anyhow!(
+            "a key, a counter or a tag has another length"
+        ))
     }
-    Ok(v)
-}
 
-fn aes(heap: Global, words: &mut SplitWhitespace) -> anyhow::Result<Call> {
-    let key = array(heap, words)?;
-    let plaintext = blocks(heap, words)?;
-    let ciphertext = blocks(heap, words)?;
-    Ok(Call::Aes {
-        key,
-        plaintext,
-        ciphertext,
-    })
-}
+    // A row of whole blocks.
+    fn blocks(&mut self) -> anyhow::Result<Vec<u8>> {
+        let row = self.row()?;
+        ensure!(row.len() % 16 == 0, "a text is not of whole blocks");
+        Ok(row)
+    }
 
-fn ctr(heap: Global, words: &mut SplitWhitespace) -> anyhow::Result<Call> {
-    let key = array(heap, words)?;
-    let counter = array(heap, words)?;
-    let plaintext = row(heap, words)?;
-    let ciphertext = row(heap, words)?;
-    Ok(Call::Ctr {
-        key,
-        counter,
-        plaintext,
-        ciphertext,
-    })
-}
-
-fn cmac(heap: Global, words: &mut SplitWhitespace) -> anyhow::Result<Call> {
-    let key = array(heap, words)?;
-    let message = row(heap, words)?;
-    let tag = array(heap, words)?;
-    Ok(Call::Cmac { key, message, tag })
-}
-
-fn siv(heap: Global, words: &mut SplitWhitespace) -> anyhow::Result<Call> {
-    let key = array(heap, words)?;
-    let data = row(heap, words)?;
-    let plaintext = row(heap, words)?;
-    let output = row(heap, words)?;
-    Ok(Call::Siv {
-        key,
-        data,
-        plaintext,
-        output,
-    })
-}
-
-fn any_call(heap: Global, words: &mut SplitWhitespace) -> anyhow::Result<Call> {
-    match words.next() {
-        Some("aes") => aes(heap, words),
-        Some("ctr") => ctr(heap, words),
-        Some("cmac") => cmac(heap, words),
-        Some("siv") => siv(heap, words),
-        _ => Err(anyhow!("a line names no call that is known")),
+    fn call(&mut self, name: &str) -> anyhow::Result<Call> {
+        let call = match name {
+            "aes" => Call::Aes {
+                key: self.array()?,
+                plaintext: self.blocks()?,
+                ciphertext: self.blocks()?,
+            },
+            "ctr" => Call::Ctr {
+                key: self.array()?,
+                counter: self.array()?,
+                plaintext: self.row()?,
+                ciphertext: self.row()?,
+            },
+            "cmac" => Call::Cmac {
+                key: self.array()?,
+                message: self.row()?,
+                tag: self.array()?,
+            },
+            "siv" => Call::Siv {
+                key: self.array()?,
+                data: self.row()?,
+                plaintext: self.row()?,
+                output: self.row()?,
+            },
+            _ => bail!("a line names no call that is known"),
+        };
+        Ok(call)
     }
 }
 
@@ -119,10 +96,10 @@ impl Vector<'_> {
     pub fn parse(heap: Global, line: &str) -> anyhow::Result<Vector<'_>> {
         let (name, rest) = line.split_once(" = ").context("a line has no ` = `")?;
         let mut words = rest.split_whitespace();
-        let call = any_call(heap, &mut words)?;
-        if words.next().is_some() {
-            return Err(anyhow!("a line has too many rows"));
-        }
+        let call = words.next().unwrap_or("");
+        let mut rows = Rows { heap, words };
+        let call = rows.call(call)?;
+        ensure!(rows.words.next().is_none(), "a line has too many rows");
         Ok(Vector { name, call })
     }
 }

@@ -1,14 +1,9 @@
-use Rattle.std.proofs.lemmas.List.{take_all}
-use Rattle.sheet.proofs.Shown.{hex_codes_more}
+use Rattle.std.proofs.Common.{◌≡◌, ℕ, List, IfOk, string_bytes, subst, arith}
+use Rattle.sheet.specs.Hex.{Bytes}
+use Rattle.sheet.proofs.Shown.{encoded}
 use Rattle.sheet.proofs.hex.Goals as goal
-
-pub loop-b-preserved : goal.loop-b-preserved
-loop-b-preserved c =
-    let more = hex_codes_more c.args.bytes.now c.loop-b.b-index c.loop-b-test.true in
-    let pushed = c.in_ok-push_byte.ensures in
-    cc
 
 pub returns : goal.returns
 returns c =
-    let all = take_all c.loop-b.b-index c.args.bytes.now c.loop-b-test.false in
-    cc
+    let small : Bytes c.args.bytes.now = λ k. let h = c.type_inv.bytes k in omega arith in
+    subst (λ (l : List ℕ). IfOk c.encode.result (λ t. string_bytes t ≡ l)) (encoded c.args.bytes.now small) c.encode.ensures

@@ -1,0 +1,65 @@
+// A line of the list, and what comes of it.
+use crate::kind::Kind;
+use std::alloc::{AllocError, Global};
+
+#[derive(Drop)]
+pub struct Line<'a> {
+    kind: Kind,
+    bytes: Vec<u8>,
+    wanted: &'a str,
+}
+
+#[derive(Drop)]
+pub struct Verdict {
+    pub kind: Kind,
+    pub length: usize,
+    pub accepted: bool,
+    // What the library said, where the list says something else.
+    pub other: Option<String>,
+}
+
+// The bytes of a word of digits. What is no digit is passed over, and so is a last digit without a second.
+fn bytes_of(heap: Global, word: &str) -> anyhow::Result<Vec<u8>> {
+    let mut digits = word
+        .bytes()
+        .filter(|c| matches!(*c, b'0'..=b'9' | b'a'..=b'f'))
+        .collect::<Vec<u8>>(heap)?;
+    digits.truncate(digits.len() / 2 * 2);
+    Ok(hex::decode(heap, digits)?)
+}
+
+impl<'a> Line<'a> {
+    // None where the text is no line of a list.
+    pub fn parse(heap: Global, text: &'a str) -> anyhow::Result<Option<Line<'a>>> {
+        let mut words = text.splitn(3, ' ');
+        let (Some(name), Some(word), Some(wanted)) = (words.next(), words.next(), words.next())
+        else {
+            return Ok(None);
+        };
+        let Ok(kind) = name.parse::<Kind>() else {
+            return Ok(None);
+        };
+        let bytes = bytes_of(heap, word)?;
+        Ok(Some(Line {
+            kind,
+            bytes,
+            wanted,
+        }))
+    }
+
+    pub fn judge(&self, heap: Global, out: &mut [u8]) -> Result<Verdict, AllocError> {
+        let answer = self.kind.answer(&self.bytes, out);
+        let said = format!(in heap; "{answer}")?;
+        let other = if said.as_str() == self.wanted {
+            None
+        } else {
+            Some(said)
+        };
+        Ok(Verdict {
+            kind: self.kind,
+            length: self.bytes.len(),
+            accepted: answer.0.is_ok(),
+            other,
+        })
+    }
+}
