@@ -6,6 +6,7 @@ pub mod Views
 pub mod Laying
 pub mod Scanning
 pub mod Messages
+pub mod Kinds
 pub mod Known
 pub mod Claims
 pub mod Numbers

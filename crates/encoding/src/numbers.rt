@@ -1,105 +1,104 @@
 // The numbers of status, prefix type and key material that have a meaning.
-ghost use Rattle.std.specs.Prelude.{◌≡◌, MatchOption, ◌≢◌};
+ghost use Rattle.std.specs.Prelude.{◌≡◌};
 ghost use Rattle.encoding.specs.Numbers.{status_number, prefix_number, material_number};
+ghost use Rattle.encoding.specs.Kinds.{KindOf, status_of, prefix_of, material_of};
 
 #[derive(Clone, Copy, PartialEq, Eq, Debug)]
 pub enum KeyStatusType {
-    Enabled,
-    Disabled,
-    Destroyed,
+    Enabled = 1,
+    Disabled = 2,
+    Destroyed = 3,
 }
 
 #[derive(Clone, Copy, PartialEq, Eq, Debug)]
 pub enum OutputPrefixType {
-    Tink,
-    Legacy,
-    Raw,
-    Crunchy,
+    Tink = 1,
+    Legacy = 2,
+    Raw = 3,
+    Crunchy = 4,
 }
 
 #[derive(Clone, Copy, PartialEq, Eq, Debug)]
 pub enum KeyMaterialType {
-    UnknownKeymaterial,
-    Symmetric,
-    AsymmetricPrivate,
-    AsymmetricPublic,
-    Remote,
+    UnknownKeymaterial = 0,
+    Symmetric = 1,
+    AsymmetricPrivate = 2,
+    AsymmetricPublic = 3,
+    Remote = 4,
 }
 
-impl KeyStatusType {
-    pub fn number(self) -> i32
-        ensures { result ≡ status_number self }
-    {
-        match self {
-            KeyStatusType::Enabled => 1,
-            KeyStatusType::Disabled => 2,
-            KeyStatusType::Destroyed => 3,
-        }
-    }
+// A number that no status, prefix type or key material type has.
+#[derive(Clone, Copy, PartialEq, Eq, Debug)]
+pub struct UnknownNumber(pub i32);
 
-    // The status with this number, if one has it.
-    pub fn from_number(n: i32) -> Option<KeyStatusType>
-        ensures { MatchOption result ((s : KeyStatusType) → status_number s ≢ n) (λ s. status_number s ≡ n) }
-    {
-        match n {
-            1 => Some(KeyStatusType::Enabled),
-            2 => Some(KeyStatusType::Disabled),
-            3 => Some(KeyStatusType::Destroyed),
-            _ => None,
-        }
+impl From<KeyStatusType> for i32 {
+    ghost from_gives = { λ status n. n ≡ status_number status };
+
+    fn from(status: KeyStatusType) -> i32 {
+        status as i32
     }
 }
 
-impl OutputPrefixType {
-    pub fn number(self) -> i32
-        ensures { result ≡ prefix_number self }
-    {
-        match self {
-            OutputPrefixType::Tink => 1,
-            OutputPrefixType::Legacy => 2,
-            OutputPrefixType::Raw => 3,
-            OutputPrefixType::Crunchy => 4,
-        }
-    }
+impl From<OutputPrefixType> for i32 {
+    ghost from_gives = { λ prefix n. n ≡ prefix_number prefix };
 
-    // The prefix type with this number, if one has it.
-    pub fn from_number(n: i32) -> Option<OutputPrefixType>
-        ensures { MatchOption result ((p : OutputPrefixType) → prefix_number p ≢ n) (λ p. prefix_number p ≡ n) }
-    {
+    fn from(prefix: OutputPrefixType) -> i32 {
+        prefix as i32
+    }
+}
+
+impl From<KeyMaterialType> for i32 {
+    ghost from_gives = { λ material n. n ≡ material_number material };
+
+    fn from(material: KeyMaterialType) -> i32 {
+        material as i32
+    }
+}
+
+impl TryFrom<i32> for KeyStatusType {
+    type Error = UnknownNumber;
+
+    ghost try_from_gives = { KindOf status_number status_of };
+
+    fn try_from(n: i32) -> Result<KeyStatusType, UnknownNumber> {
         match n {
-            1 => Some(OutputPrefixType::Tink),
-            2 => Some(OutputPrefixType::Legacy),
-            3 => Some(OutputPrefixType::Raw),
-            4 => Some(OutputPrefixType::Crunchy),
-            _ => None,
+            1 => Ok(KeyStatusType::Enabled),
+            2 => Ok(KeyStatusType::Disabled),
+            3 => Ok(KeyStatusType::Destroyed),
+            _ => Err(UnknownNumber(n)),
         }
     }
 }
 
-impl KeyMaterialType {
-    pub fn number(self) -> i32
-        ensures { result ≡ material_number self }
-    {
-        match self {
-            KeyMaterialType::UnknownKeymaterial => 0,
-            KeyMaterialType::Symmetric => 1,
-            KeyMaterialType::AsymmetricPrivate => 2,
-            KeyMaterialType::AsymmetricPublic => 3,
-            KeyMaterialType::Remote => 4,
+impl TryFrom<i32> for OutputPrefixType {
+    type Error = UnknownNumber;
+
+    ghost try_from_gives = { KindOf prefix_number prefix_of };
+
+    fn try_from(n: i32) -> Result<OutputPrefixType, UnknownNumber> {
+        match n {
+            1 => Ok(OutputPrefixType::Tink),
+            2 => Ok(OutputPrefixType::Legacy),
+            3 => Ok(OutputPrefixType::Raw),
+            4 => Ok(OutputPrefixType::Crunchy),
+            _ => Err(UnknownNumber(n)),
         }
     }
+}
 
-    // The key material type with this number, if one has it.
-    pub fn from_number(n: i32) -> Option<KeyMaterialType>
-        ensures { MatchOption result ((m : KeyMaterialType) → material_number m ≢ n) (λ m. material_number m ≡ n) }
-    {
+impl TryFrom<i32> for KeyMaterialType {
+    type Error = UnknownNumber;
+
+    ghost try_from_gives = { KindOf material_number material_of };
+
+    fn try_from(n: i32) -> Result<KeyMaterialType, UnknownNumber> {
         match n {
-            0 => Some(KeyMaterialType::UnknownKeymaterial),
-            1 => Some(KeyMaterialType::Symmetric),
-            2 => Some(KeyMaterialType::AsymmetricPrivate),
-            3 => Some(KeyMaterialType::AsymmetricPublic),
-            4 => Some(KeyMaterialType::Remote),
-            _ => None,
+            0 => Ok(KeyMaterialType::UnknownKeymaterial),
+            1 => Ok(KeyMaterialType::Symmetric),
+            2 => Ok(KeyMaterialType::AsymmetricPrivate),
+            3 => Ok(KeyMaterialType::AsymmetricPublic),
+            4 => Ok(KeyMaterialType::Remote),
+            _ => Err(UnknownNumber(n)),
         }
     }
 }
