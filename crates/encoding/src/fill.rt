@@ -82,7 +82,7 @@ pub(crate) fn fill_url(slot: &mut TypeUrl, payload: &[u8]) -> bool
 
 // A record inside another has its own reader, and is refused where that refuses.
 pub(crate) fn fill_record<R: Message>(slot: &mut Option<R>, payload: &[u8]) -> bool
-    ensures { (k : ℕ) → Filled (present R.Message.fields k) (λ _. Unit {0}) result slot.old slot.new (bytes k payload.now) }
+    ensures { (k : ℕ) → Filled (present R.fields k) (λ _. Unit {0}) result slot.old slot.new (bytes k payload.now) }
 {
     if slot.is_some() {
         return false;
@@ -100,7 +100,7 @@ pub(crate) fn push_record<R: Message, const N: usize>(
     slot: &mut Bounded<R, N>,
     payload: &[u8],
 ) -> bool
-    ensures { (k : ℕ) → Filled (λ b. each R.Message.fields k (list b)) (λ _. Unit {0}) result slot.old slot.new (bytes k payload.now) }
+    ensures { (k : ℕ) → Filled (λ b. each R.fields k (list b)) (λ _. Unit {0}) result slot.old slot.new (bytes k payload.now) }
 {
     let Ok(made) = read::<R>(payload) else {
         return false;

@@ -18,17 +18,13 @@ pub trait Message: Copy {
     // The fields that it may have at all.
     ghost knows: { Field → Bool };
 
-    // The most bytes that it takes.
-    ghost largest: { ℕ };
-
     // That two records mean the same.
     ghost same: { Self → Self → Type 0 };
 
-    // The largest size, for buffers; `largest_len` ties it to the proved bound.
+    // The most bytes that it takes, for buffers too.
     const LARGEST: usize;
 
-    fn largest_len() -> usize
-        ensures { result ≡ largest };
+    ghost LARGEST: { ℕ };
 
     fn empty() -> Self
         ensures { fields result ≡ [] };
@@ -54,26 +50,26 @@ pub trait Message: Copy {
         ensures { Laid (encode (fields self.now)) out.old at out.new result };
 
     // The fields are in order, with numbers from 1 to 15, known, and within the largest size.
-    ghost sound: { (r : Self) → Sound knows 1 15 largest (fields r) };
+    ghost sound: { (r : Self) → Sound knows 1 15 LARGEST (fields r) };
 
-    ghost modest: { largest < 2 ^ 32 };
+    ghost modest: { LARGEST < 2 ^ 32 };
 
     ghost told: { (r s : Self) → fields r ≡ fields s → same r s };
 }
 
 // How many bytes a record takes.
 pub fn encoded_len<R: Message>(record: &R) -> usize
-    ensures size { result ≡ length (encode (R.Message.fields «record».now)) }
-    ensures bound { result ≤ R.Message.largest }
+    ensures size { result ≡ length (encode (R.fields «record».now)) }
+    ensures bound { result ≤ R.LARGEST }
 {
     record.size()
 }
 
 // Whether a record fits in so many bytes. Where the largest one does, nothing is measured.
 fn fits<R: Message>(record: &R, room: usize) -> bool
-    ensures { result ≡ nat_le (length (encode (R.Message.fields «record».now))) room }
+    ensures { result ≡ nat_le (length (encode (R.fields «record».now))) room }
 {
-    if room >= R::largest_len() {
+    if room >= R::LARGEST {
         return true;
     }
     encoded_len(record) <= room
@@ -83,8 +79,8 @@ fn fits<R: Message>(record: &R, room: usize) -> bool
 // nothing.
 pub fn write<R: Message>(record: &R, out: &mut [u8]) -> Result<usize, Fault>
     ensures { MatchResult result
-        (λ n. Wrote (encode (R.Message.fields «record».now)) out.old out.new n)
-        (λ f. Unwritten (encode (R.Message.fields «record».now)) out.old out.new f) }
+        (λ n. Wrote (encode (R.fields «record».now)) out.old out.new n)
+        (λ f. Unwritten (encode (R.fields «record».now)) out.old out.new f) }
 {
     if !fits(record, out.len()) {
         return Err(Fault::new(Refusal::WrongSize, Layer::Encoding));
@@ -101,9 +97,9 @@ fn broken(place: usize) -> Fault
 
 // One more field, from the front of `rest`; or nothing where no record goes on so. `last` is the number of the field before.
 fn step<R: Message>(made: &mut R, last: u64, rest: &[u8]) -> Option<Piece>
-    requires { last ≡ last_of 0 (R.Message.fields made.old) }
-    ensures { MatchOption result (Stuck R.Message.fields made.old rest.now)
-        (λ p. Went R.Message.fields made.old made.new rest.now p.size p.number) }
+    requires { last ≡ last_of 0 (R.fields made.old) }
+    ensures { MatchOption result (Stuck R.fields made.old rest.now)
+        (λ p. Went R.fields made.old made.new rest.now p.size p.number) }
 {
     let piece = scan(rest)?;
     if piece.number < last {
@@ -121,7 +117,7 @@ fn step<R: Message>(made: &mut R, last: u64, rest: &[u8]) -> Option<Piece>
 
 // The record whose encoding the input is. Any other input is refused, at the first top-level field that breaks a rule.
 pub fn read<R: Message>(input: &[u8]) -> Result<R, Fault>
-    ensures { MatchResult result (λ v. encode (R.Message.fields v) ≡ input.now) (λ f. Unread R.Message.fields input.now f) }
+    ensures { MatchResult result (λ v. encode (R.fields v) ≡ input.now) (λ f. Unread R.fields input.now f) }
 {
     let mut made = R::empty();
     let mut last = 0;

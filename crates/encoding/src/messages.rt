@@ -25,21 +25,17 @@ impl Message for KeyData {
 
     ghost knows = { key_data_knows };
 
-    ghost largest = { 208 };
+    ghost LARGEST = { 208 };
+
+    const LARGEST: usize = 208; // type_url 66, value 131, key_material_type 11
 
     ghost same = { λ r s. key_data_view r ≡ key_data_view s };
-
-    const LARGEST: usize = 208;
 
     ghost sound = { λ r. KeyDatas.sound r };
 
     ghost modest = { Prim.search rules };
 
     ghost told = { λ r s e. KeyDatas.told r s e };
-
-    fn largest_len() -> usize {
-        KeyData::LARGEST
-    }
 
     fn empty() -> KeyData {
         KeyData {
@@ -82,21 +78,17 @@ impl Message for KeyTemplate {
 
     ghost knows = { key_template_knows };
 
-    ghost largest = { 208 };
+    ghost LARGEST = { 208 };
+
+    const LARGEST: usize = 208; // type_url 66, value 131, output_prefix_type 11
 
     ghost same = { λ r s. key_template_view r ≡ key_template_view s };
-
-    const LARGEST: usize = 208;
 
     ghost sound = { λ r. KeyTemplates.sound r };
 
     ghost modest = { Prim.search rules };
 
     ghost told = { λ r s e. KeyTemplates.told r s e };
-
-    fn largest_len() -> usize {
-        KeyTemplate::LARGEST
-    }
 
     fn empty() -> KeyTemplate {
         KeyTemplate {
@@ -139,21 +131,17 @@ impl Message for Key {
 
     ghost knows = { key_knows };
 
-    ghost largest = { 239 };
-
-    ghost same = { λ r s. key_view r ≡ key_view s };
+    ghost LARGEST = { 239 };
 
     const LARGEST: usize = 239;
+
+    ghost same = { λ r s. key_view r ≡ key_view s };
 
     ghost sound = { λ r. Keys.sound r };
 
     ghost modest = { Prim.search rules };
 
     ghost told = { λ r s e. Keys.told r s e };
-
-    fn largest_len() -> usize {
-        Self::LARGEST
-    }
 
     fn empty() -> Key {
         Key {
@@ -200,21 +188,17 @@ impl Message for Keyset {
 
     ghost knows = { keyset_knows };
 
-    ghost largest = { 3878 };
-
-    ghost same = { λ r s. keyset_view r ≡ keyset_view s };
+    ghost LARGEST = { 3878 };
 
     const LARGEST: usize = 3878;
+
+    ghost same = { λ r s. keyset_view r ≡ keyset_view s };
 
     ghost sound = { λ r. Keysets.sound r };
 
     ghost modest = { Prim.search rules };
 
     ghost told = { λ r s e. Keysets.told r s e };
-
-    fn largest_len() -> usize {
-        Self::LARGEST
-    }
 
     fn empty() -> Keyset {
         Keyset {
@@ -258,21 +242,17 @@ impl Message for KeyInfo {
 
     ghost knows = { key_info_knows };
 
-    ghost largest = { 94 };
-
-    ghost same = { λ r s. key_info_view r ≡ key_info_view s };
+    ghost LARGEST = { 94 };
 
     const LARGEST: usize = 94;
+
+    ghost same = { λ r s. key_info_view r ≡ key_info_view s };
 
     ghost sound = { λ r. KeyInfos.sound r };
 
     ghost modest = { Prim.search rules };
 
     ghost told = { λ r s e. KeyInfos.told r s e };
-
-    fn largest_len() -> usize {
-        Self::LARGEST
-    }
 
     fn empty() -> KeyInfo {
         KeyInfo {
@@ -319,21 +299,17 @@ impl Message for KeysetInfo {
 
     ghost knows = { keyset_info_knows };
 
-    ghost largest = { 1542 };
-
-    ghost same = { λ r s. keyset_info_view r ≡ keyset_info_view s };
+    ghost LARGEST = { 1542 };
 
     const LARGEST: usize = 1542;
+
+    ghost same = { λ r s. keyset_info_view r ≡ keyset_info_view s };
 
     ghost sound = { λ r. KeysetInfos.sound r };
 
     ghost modest = { Prim.search rules };
 
     ghost told = { λ r s e. KeysetInfos.told r s e };
-
-    fn largest_len() -> usize {
-        Self::LARGEST
-    }
 
     fn empty() -> KeysetInfo {
         KeysetInfo {
@@ -377,21 +353,17 @@ impl Message for EncryptedKeyset {
 
     ghost knows = { encrypted_keyset_knows };
 
-    ghost largest = { 5708 };
-
-    ghost same = { λ r s. encrypted_keyset_view r ≡ encrypted_keyset_view s };
+    ghost LARGEST = { 5708 };
 
     const LARGEST: usize = 5708;
+
+    ghost same = { λ r s. encrypted_keyset_view r ≡ encrypted_keyset_view s };
 
     ghost sound = { λ r. EncryptedKeysets.sound r };
 
     ghost modest = { Prim.search rules };
 
     ghost told = { λ r s e. EncryptedKeysets.told r s e };
-
-    fn largest_len() -> usize {
-        Self::LARGEST
-    }
 
     fn empty() -> EncryptedKeyset {
         EncryptedKeyset {

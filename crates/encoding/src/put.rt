@@ -73,7 +73,7 @@ pub(crate) fn put_text(out: &mut [u8], at: usize, field: u64, from: &[u8]) -> us
 
 fn put_record<R: Message>(out: &mut [u8], at: usize, field: u64, inner: &R) -> usize
     requires { field < 16 }
-    ensures { Laid (encode_field (bytes field (encode (R.Message.fields inner.now)))) out.old at out.new result }
+    ensures { Laid (encode_field (bytes field (encode (R.fields inner.now)))) out.old at out.new result }
 {
     let len = inner.size();
     let next = put_head(out, at, field, len);
@@ -87,7 +87,7 @@ pub(crate) fn put_present<R: Message>(
     inner: &Option<R>,
 ) -> usize
     requires { field < 16 }
-    ensures { Laid (encode (present R.Message.fields field inner.now)) out.old at out.new result }
+    ensures { Laid (encode (present R.fields field inner.now)) out.old at out.new result }
 {
     match inner {
         None => at,
@@ -102,7 +102,7 @@ pub(crate) fn put_each<R: Message, const N: usize>(
     all: &Bounded<R, N>,
 ) -> usize
     requires { field < 16 }
-    ensures { Laid (encode (each R.Message.fields field (list all.now))) out.old at out.new result }
+    ensures { Laid (encode (each R.fields field (list all.now))) out.old at out.new result }
 {
     let mut end = at;
     let items = all.as_slice();

@@ -47,14 +47,14 @@ pub(crate) fn text_len(len: usize) -> usize
 }
 
 fn record_len<R: Message>(inner: &R) -> usize
-    ensures size { (k : ℕ) → k < 16 → result ≡ length (encode_field (bytes k (encode (R.Message.fields inner.now)))) }
+    ensures size { (k : ℕ) → k < 16 → result ≡ length (encode_field (bytes k (encode (R.fields inner.now)))) }
     ensures bound { result < 2 ^ 33 }
 {
     field_len(inner.size())
 }
 
 pub(crate) fn present_len<R: Message>(inner: &Option<R>) -> usize
-    ensures size { (k : ℕ) → k < 16 → result ≡ length (encode (present R.Message.fields k inner.now)) }
+    ensures size { (k : ℕ) → k < 16 → result ≡ length (encode (present R.fields k inner.now)) }
     ensures bound { result < 2 ^ 33 }
 {
     match inner {
@@ -65,7 +65,7 @@ pub(crate) fn present_len<R: Message>(inner: &Option<R>) -> usize
 
 // Or the largest number there is.
 pub(crate) fn each_len<R: Message, const N: usize>(all: &Bounded<R, N>) -> usize
-    ensures { (k : ℕ) → k < 16 → result ≡ min (length (encode (each R.Message.fields k (list all.now)))) (2 ^ 64 - 1) }
+    ensures { (k : ℕ) → k < 16 → result ≡ min (length (encode (each R.fields k (list all.now)))) (2 ^ 64 - 1) }
 {
     let mut total = 0usize;
     let items = all.as_slice();
