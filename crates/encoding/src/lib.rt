@@ -4,8 +4,9 @@
 
 pub mod bounded;
 pub mod claims;
-mod fill;
+pub mod content;
 pub mod makings;
+mod member;
 pub mod message;
 pub mod messages;
 pub mod numbers;

@@ -1,12 +1,11 @@
 // What all records have in common: one writer and one exact reader, over what a record says of its own fields.
-ghost use Rattle.std.specs.Prelude.{◌≡◌, ℕ, ◌^◌, ◌<◌, ◌≤◌, Bool, List, [], ◌∷◌, ◌++◌, length, MatchOption, MatchResult, nat_le};
-ghost use Rattle.ciphers.specs.Faults.{fault, placed};
-ghost use Rattle.ciphers.specs.declared.fault.Refusal.TheVariants.{BreaksEncoding};
-ghost use Rattle.ciphers.specs.declared.fault.Layer.TheVariants.{Encoding};
-ghost use Rattle.encoding.specs.Wire.{Field, number, bytes, encode};
+ghost use Rattle.std.specs.Prelude.{◌≡◌, ℕ, ◌^◌, ◌<◌, ◌≤◌, Bool, List, [], ◌∷◌, ◌++◌, length, MatchResult, IfErr, is_ok, nat_le};
+ghost use Rattle.encoding.specs.Wire.{Field, encode};
 ghost use Rattle.encoding.specs.Laying.{Laid};
-ghost use Rattle.encoding.specs.Messages.{Sound, Took, Unread, Unwritten, Wrote, last_of, Went, Stuck};
+ghost use Rattle.encoding.specs.Messages.{Broken, Sound, Took, Unread, Unwritten, Wrote, last_of, Went, Stuck};
+ghost use Rattle.encoding.specs.Scanning.{field_of};
 
+use crate::content::{Content, broken};
 use crate::scan::{Piece, scan};
 use ciphers::fault::{Fault, Layer, Refusal};
 
@@ -29,13 +28,10 @@ pub trait Message: Copy {
     fn empty() -> Self
         ensures { fields result ≡ [] };
 
-    // One more field with a number in it, at its place; `false` if no record has it there.
-    fn add_number(&mut self, field: u64, value: u64) -> bool
-        ensures { Took fields result self.old self.new (number field value) };
-
-    // The same for a field with bytes in it.
-    fn add_bytes(&mut self, field: u64, payload: &[u8]) -> bool
-        ensures { Took fields result self.old self.new (bytes field payload.now) };
+    // One more field, at its place; a refusal if no record has it there.
+    fn add(&mut self, field: u64, content: Content<'_>) -> Result<(), Fault>
+        ensures took { Took fields (is_ok result) self.old self.new (field_of field content.entry) }
+        ensures fault { IfErr result Broken };
 
     // How many bytes the encoding takes. It is measured by laying it over no output, unless a record counts.
     fn size(&self) -> usize
@@ -88,31 +84,19 @@ pub fn write<R: Message>(record: &R, out: &mut [u8]) -> Result<usize, Fault>
     Ok(record.put(out, 0))
 }
 
-// What the reader refuses with.
-fn broken(place: usize) -> Fault
-    ensures { result ≡ placed place (fault BreaksEncoding Encoding) }
-{
-    Fault::new(Refusal::BreaksEncoding, Layer::Encoding).at(place)
-}
-
-// One more field, from the front of `rest`; or nothing where no record goes on so. `last` is the number of the field before.
-fn step<R: Message>(made: &mut R, last: u64, rest: &[u8]) -> Option<Piece>
+// One more field, from the front of `rest`; or a refusal where no record goes on so. `last` is the number of the field
+// before.
+fn step<'a, R: Message>(made: &mut R, last: u64, rest: &'a [u8]) -> Result<Piece<'a>, Fault>
     requires { last ≡ last_of 0 (R.fields made.old) }
-    ensures { MatchOption result (Stuck R.fields made.old rest.now)
-        (λ p. Went R.fields made.old made.new rest.now p.size p.number) }
+    ensures { MatchResult result (λ p. Went R.fields made.old made.new rest.now p.size p.number)
+        (λ f. Broken f × Stuck R.fields made.old rest.now) }
 {
-    let piece = scan(rest)?;
+    let piece = scan(rest).ok_or(broken())?;
     if piece.number < last {
-        return None;
+        return Err(broken());
     }
-    let head = piece.head;
-    let size = piece.size;
-    let taken = if piece.delimited {
-        made.add_bytes(piece.number, &rest[head..size])
-    } else {
-        made.add_number(piece.number, piece.value)
-    };
-    if taken { Some(piece) } else { None }
+    made.add(piece.number, piece.content)?;
+    Ok(piece)
 }
 
 // The record whose encoding the input is. Any other input is refused, at the first top-level field that breaks a rule.
@@ -123,9 +107,7 @@ pub fn read<R: Message>(input: &[u8]) -> Result<R, Fault>
     let mut last = 0;
     let mut at = 0;
     while at < input.len() {
-        let Some(piece) = step(&mut made, last, &input[at..]) else {
-            return Err(broken(at));
-        };
+        let piece = step(&mut made, last, &input[at..]).map_err(|fault| fault.at(at))?;
         last = piece.number;
         at += piece.size;
     }

@@ -79,10 +79,7 @@ pub(crate) fn take_varint(bytes: &[u8], left: u8) -> Option<(u64, usize)>
     requires few { left ≤ 9 }
     ensures { result ≡ unvarint left bytes.now }
 {
-    if bytes.is_empty() {
-        return None;
-    }
-    let b = bytes[0];
+    let (&b, rest) = bytes.split_first()?;
     if b < 128 {
         if left == 0 && b >= 2 {
             return None;
@@ -92,14 +89,9 @@ pub(crate) fn take_varint(bytes: &[u8], left: u8) -> Option<(u64, usize)>
     if left == 0 {
         return None;
     }
-    match take_varint(&bytes[1..], left - 1) {
-        None => None,
-        Some((v, n)) => {
-            if v == 0 {
-                None
-            } else {
-                Some(((b - 128) as u64 + 128 * v, n + 1))
-            }
-        }
+    let (v, n) = take_varint(rest, left - 1)?;
+    if v == 0 {
+        return None;
     }
+    Some(((b - 128) as u64 + 128 * v, n + 1))
 }
