@@ -12,3 +12,7 @@ laid (suc at) xs (o ∷ os) = o ∷ laid at xs os
 pub record Laid (xs old : List ℕ) (at : ℕ) (new : List ℕ) (end : ℕ) : Type 0 where
   pub after : new ≡ laid at xs old
   pub ends : end ≡ min (at + length xs) (2 ^ 64 - 1)
+
+-- how many bytes xs is, or the largest number there is
+abbrev pub Counted : List ℕ → ℕ → Type 0
+Counted xs n = n ≡ min (length xs) (2 ^ 64 - 1)

@@ -1,9 +1,10 @@
-// A member of a record. One more field for it is taken where it was absent and the value is within its limits.
+// A member of a record: what it is written as, and how one more field fills it.
 ghost use Rattle.std.specs.Prelude.{ℕ, ◌^◌, ◌<◌, ℤ, MatchOption, FitsSigned, ◌≢◌, ◌≡◌, List, IfErr, is_ok};
 ghost use Rattle.std.specs.Int.Signed.{mag};
 ghost use Rattle.std.proofs.Common.{of_z};
 ghost use Rattle.std.specs.Int.{w32, w64};
-ghost use Rattle.encoding.specs.Wire.{Field};
+ghost use Rattle.encoding.specs.Wire.{Field, encode};
+ghost use Rattle.encoding.specs.Laying.{Counted, Laid};
 ghost use Rattle.encoding.specs.Scanning.{field_of};
 ghost use Rattle.encoding.specs.Members.{unsigned, signed, text, present, each};
 ghost use Rattle.encoding.specs.Lists.{list};
@@ -12,6 +13,8 @@ ghost use Rattle.encoding.specs.Messages.{Broken, Filled};
 use crate::bounded::Bounded;
 use crate::content::{Content, broken};
 use crate::message::{Message, read};
+use crate::put::{put_record, put_text, put_unsigned, wide};
+use crate::sizes::{record_len, text_len, unsigned_len};
 use crate::url::TypeUrl;
 use ciphers::fault::Fault;
 
@@ -22,6 +25,16 @@ pub(crate) trait Member {
     // The values that it can have.
     ghost Fits: { Self → Type 0 };
 
+    // How many bytes it takes, or the largest number there is.
+    fn size(&self) -> usize
+        ensures { (k : ℕ) → k < 16 → Counted (encode (part k self.now)) result };
+
+    // Lays it over the output from a place on, as far as it reaches, and answers where it would end.
+    fn put(&self, field: u64, out: &mut [u8], at: usize) -> usize
+        requires { field < 16 }
+        ensures { Laid (encode (part field self.now)) out.old at out.new result };
+
+    // Takes one more field, where it was absent and the value is within its limits.
     fn fill(&mut self, content: Content<'_>) -> Result<(), Fault>
         ensures fits { Fits self.old → Fits self.new }
         ensures step { (k : ℕ) → Filled (part k) Fits (is_ok result) self.old self.new (field_of k content.entry) }
@@ -32,6 +45,14 @@ impl Member for u32 {
     ghost part = { unsigned };
 
     ghost Fits = { λ v. v < 2 ^ 32 };
+
+    fn size(&self) -> usize {
+        unsigned_len(*self as u64)
+    }
+
+    fn put(&self, field: u64, out: &mut [u8], at: usize) -> usize {
+        put_unsigned(out, at, field, *self as u64)
+    }
 
     fn fill(&mut self, content: Content<'_>) -> Result<(), Fault> {
         match content {
@@ -56,6 +77,14 @@ impl Member for i32 {
 
     ghost Fits = { λ v. FitsSigned w32 v };
 
+    fn size(&self) -> usize {
+        unsigned_len(wide(*self))
+    }
+
+    fn put(&self, field: u64, out: &mut [u8], at: usize) -> usize {
+        put_unsigned(out, at, field, wide(*self))
+    }
+
     fn fill(&mut self, content: Content<'_>) -> Result<(), Fault> {
         let value = content.number()?;
         if *self != 0 || value == 0 {
@@ -71,6 +100,14 @@ impl<const N: usize> Member for Bounded<u8, N> {
 
     ghost Fits = { λ _. Unit {0} };
 
+    fn size(&self) -> usize {
+        text_len(self.len())
+    }
+
+    fn put(&self, field: u64, out: &mut [u8], at: usize) -> usize {
+        put_text(out, at, field, self.as_slice())
+    }
+
     fn fill(&mut self, content: Content<'_>) -> Result<(), Fault> {
         let payload = content.bytes()?;
         if !self.is_empty() || payload.is_empty() {
@@ -85,6 +122,14 @@ impl Member for TypeUrl {
     ghost part = { λ k u. text k (list u.text) };
 
     ghost Fits = { λ _. Unit {0} };
+
+    fn size(&self) -> usize {
+        text_len(self.as_bytes().len())
+    }
+
+    fn put(&self, field: u64, out: &mut [u8], at: usize) -> usize {
+        put_text(out, at, field, self.as_bytes())
+    }
 
     fn fill(&mut self, content: Content<'_>) -> Result<(), Fault> {
         let payload = content.bytes()?;
@@ -102,6 +147,20 @@ impl<R: Message> Member for Option<R> {
 
     ghost Fits = { λ _. Unit {0} };
 
+    fn size(&self) -> usize {
+        match self {
+            None => 0,
+            Some(one) => record_len(one),
+        }
+    }
+
+    fn put(&self, field: u64, out: &mut [u8], at: usize) -> usize {
+        match self {
+            None => at,
+            Some(one) => put_record(out, at, field, one),
+        }
+    }
+
     fn fill(&mut self, content: Content<'_>) -> Result<(), Fault> {
         let payload = content.bytes()?;
         if self.is_some() {
@@ -116,6 +175,24 @@ impl<R: Message, const N: usize> Member for Bounded<R, N> {
     ghost part = { λ k b. each R.fields k (list b) };
 
     ghost Fits = { λ _. Unit {0} };
+
+    fn size(&self) -> usize {
+        let mut total = 0usize;
+        let items = self.as_slice();
+        for one in items {
+            total = total.saturating_add(record_len(one));
+        }
+        total
+    }
+
+    fn put(&self, field: u64, out: &mut [u8], at: usize) -> usize {
+        let mut end = at;
+        let items = self.as_slice();
+        for one in items {
+            end = put_record(out, end, field, one);
+        }
+        end
+    }
 
     fn fill(&mut self, content: Content<'_>) -> Result<(), Fault> {
         self.push(read(content.bytes()?)?)

@@ -15,11 +15,7 @@ use crate::varint::put_varint;
 pub(crate) fn wide(x: i32) -> u64
     ensures { result ≡ of_z w64 x }
 {
-    if x >= 0 {
-        x as u64
-    } else {
-        u64::MAX - (-1 - x) as u64
-    }
+    i64::from(x).cast_unsigned()
 }
 
 pub(crate) fn put_raw(out: &mut [u8], at: usize, from: &[u8]) -> usize
@@ -44,13 +40,6 @@ pub(crate) fn put_unsigned(out: &mut [u8], at: usize, field: u64, value: u64) ->
     put_varint(out, next, value)
 }
 
-pub(crate) fn put_signed(out: &mut [u8], at: usize, field: u64, value: i32) -> usize
-    requires { field < 16 }
-    ensures { Laid (encode (signed field value)) out.old at out.new result }
-{
-    put_unsigned(out, at, field, wide(value))
-}
-
 // The key and the length of a field with bytes in it.
 fn put_head(out: &mut [u8], at: usize, field: u64, len: usize) -> usize
     requires { field < 16 }
@@ -71,43 +60,11 @@ pub(crate) fn put_text(out: &mut [u8], at: usize, field: u64, from: &[u8]) -> us
     put_raw(out, next, from)
 }
 
-fn put_record<R: Message>(out: &mut [u8], at: usize, field: u64, inner: &R) -> usize
+pub(crate) fn put_record<R: Message>(out: &mut [u8], at: usize, field: u64, inner: &R) -> usize
     requires { field < 16 }
     ensures { Laid (encode_field (bytes field (encode (R.fields inner.now)))) out.old at out.new result }
 {
     let len = inner.size();
     let next = put_head(out, at, field, len);
     inner.put(out, next)
-}
-
-pub(crate) fn put_present<R: Message>(
-    out: &mut [u8],
-    at: usize,
-    field: u64,
-    inner: &Option<R>,
-) -> usize
-    requires { field < 16 }
-    ensures { Laid (encode (present R.fields field inner.now)) out.old at out.new result }
-{
-    match inner {
-        None => at,
-        Some(one) => put_record(out, at, field, one),
-    }
-}
-
-pub(crate) fn put_each<R: Message, const N: usize>(
-    out: &mut [u8],
-    at: usize,
-    field: u64,
-    all: &Bounded<R, N>,
-) -> usize
-    requires { field < 16 }
-    ensures { Laid (encode (each R.fields field (list all.now))) out.old at out.new result }
-{
-    let mut end = at;
-    let items = all.as_slice();
-    for one in items {
-        end = put_record(out, end, field, one);
-    }
-    end
 }

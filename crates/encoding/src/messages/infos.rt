@@ -11,9 +11,7 @@ use crate::bounded::Bounded;
 use crate::content::{Content, broken};
 use crate::member::Member;
 use crate::message::Message;
-use crate::put::{put_each, put_present, put_signed, put_text, put_unsigned};
 use crate::records::{EncryptedKeyset, KeyInfo, KeysetInfo};
-use crate::sizes::{each_len, present_len, signed_len, text_len, unsigned_len};
 use crate::url::TypeUrl;
 use ciphers::fault::Fault;
 
@@ -54,17 +52,18 @@ impl Message for KeyInfo {
     }
 
     fn size(&self) -> usize {
-        let url = text_len(self.type_url.as_bytes().len());
-        let status = signed_len(self.status);
-        let id = unsigned_len(self.key_id as u64);
-        url + (status + (id + signed_len(self.output_prefix_type)))
+        self.type_url
+            .size()
+            .saturating_add(self.status.size())
+            .saturating_add(self.key_id.size())
+            .saturating_add(self.output_prefix_type.size())
     }
 
     fn put(&self, out: &mut [u8], at: usize) -> usize {
-        let after_url = put_text(out, at, 1, self.type_url.as_bytes());
-        let third = put_signed(out, after_url, 2, self.status);
-        let fourth = put_unsigned(out, third, 3, self.key_id as u64);
-        put_signed(out, fourth, 4, self.output_prefix_type)
+        let next = self.type_url.put(1, out, at);
+        let next = self.status.put(2, out, next);
+        let next = self.key_id.put(3, out, next);
+        self.output_prefix_type.put(4, out, next)
     }
 }
 
@@ -106,13 +105,14 @@ impl Message for KeysetInfo {
     }
 
     fn size(&self) -> usize {
-        let id = unsigned_len(self.primary_key_id as u64);
-        id.saturating_add(each_len(&self.key_info))
+        self.primary_key_id
+            .size()
+            .saturating_add(self.key_info.size())
     }
 
     fn put(&self, out: &mut [u8], at: usize) -> usize {
-        let second = put_unsigned(out, at, 1, self.primary_key_id as u64);
-        put_each(out, second, 2, &self.key_info)
+        let next = self.primary_key_id.put(1, out, at);
+        self.key_info.put(2, out, next)
     }
 }
 
@@ -149,12 +149,13 @@ impl Message for EncryptedKeyset {
     }
 
     fn size(&self) -> usize {
-        let sealed = text_len(self.encrypted_keyset.len());
-        sealed + present_len(&self.keyset_info)
+        self.encrypted_keyset
+            .size()
+            .saturating_add(self.keyset_info.size())
     }
 
     fn put(&self, out: &mut [u8], at: usize) -> usize {
-        let second = put_text(out, at, 2, self.encrypted_keyset.as_slice());
-        put_present(out, second, 3, &self.keyset_info)
+        let next = self.encrypted_keyset.put(2, out, at);
+        self.keyset_info.put(3, out, next)
     }
 }

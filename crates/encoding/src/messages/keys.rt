@@ -11,9 +11,7 @@ use crate::bounded::Bounded;
 use crate::content::{Content, broken};
 use crate::member::Member;
 use crate::message::Message;
-use crate::put::{put_each, put_present, put_signed, put_text, put_unsigned};
 use crate::records::{Key, KeyData, Keyset};
-use crate::sizes::{each_len, present_len, signed_len, text_len, unsigned_len};
 use crate::url::TypeUrl;
 use ciphers::fault::Fault;
 
@@ -52,15 +50,16 @@ impl Message for KeyData {
     }
 
     fn size(&self) -> usize {
-        let url = text_len(self.type_url.as_bytes().len());
-        let value = text_len(self.value.len());
-        url + (value + signed_len(self.key_material_type))
+        self.type_url
+            .size()
+            .saturating_add(self.value.size())
+            .saturating_add(self.key_material_type.size())
     }
 
     fn put(&self, out: &mut [u8], at: usize) -> usize {
-        let second = put_text(out, at, 1, self.type_url.as_bytes());
-        let third = put_text(out, second, 2, self.value.as_slice());
-        put_signed(out, third, 3, self.key_material_type)
+        let next = self.type_url.put(1, out, at);
+        let next = self.value.put(2, out, next);
+        self.key_material_type.put(3, out, next)
     }
 }
 
@@ -101,17 +100,18 @@ impl Message for Key {
     }
 
     fn size(&self) -> usize {
-        let data = present_len(&self.key_data);
-        let status = signed_len(self.status);
-        let id = unsigned_len(self.key_id as u64);
-        data + (status + (id + signed_len(self.output_prefix_type)))
+        self.key_data
+            .size()
+            .saturating_add(self.status.size())
+            .saturating_add(self.key_id.size())
+            .saturating_add(self.output_prefix_type.size())
     }
 
     fn put(&self, out: &mut [u8], at: usize) -> usize {
-        let second = put_present(out, at, 1, &self.key_data);
-        let third = put_signed(out, second, 2, self.status);
-        let fourth = put_unsigned(out, third, 3, self.key_id as u64);
-        put_signed(out, fourth, 4, self.output_prefix_type)
+        let next = self.key_data.put(1, out, at);
+        let next = self.status.put(2, out, next);
+        let next = self.key_id.put(3, out, next);
+        self.output_prefix_type.put(4, out, next)
     }
 }
 
@@ -153,12 +153,11 @@ impl Message for Keyset {
     }
 
     fn size(&self) -> usize {
-        let id = unsigned_len(self.primary_key_id as u64);
-        id.saturating_add(each_len(&self.key))
+        self.primary_key_id.size().saturating_add(self.key.size())
     }
 
     fn put(&self, out: &mut [u8], at: usize) -> usize {
-        let second = put_unsigned(out, at, 1, self.primary_key_id as u64);
-        put_each(out, second, 2, &self.key)
+        let next = self.primary_key_id.put(1, out, at);
+        self.key.put(2, out, next)
     }
 }

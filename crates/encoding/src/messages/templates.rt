@@ -9,9 +9,7 @@ use crate::bounded::Bounded;
 use crate::content::{Content, broken};
 use crate::member::Member;
 use crate::message::Message;
-use crate::put::{put_signed, put_text};
 use crate::records::KeyTemplate;
-use crate::sizes::{signed_len, text_len};
 use crate::url::TypeUrl;
 use ciphers::fault::Fault;
 
@@ -50,14 +48,15 @@ impl Message for KeyTemplate {
     }
 
     fn size(&self) -> usize {
-        let url = text_len(self.type_url.as_bytes().len());
-        let value = text_len(self.value.len());
-        url + (value + signed_len(self.output_prefix_type))
+        self.type_url
+            .size()
+            .saturating_add(self.value.size())
+            .saturating_add(self.output_prefix_type.size())
     }
 
     fn put(&self, out: &mut [u8], at: usize) -> usize {
-        let second = put_text(out, at, 1, self.type_url.as_bytes());
-        let third = put_text(out, second, 2, self.value.as_slice());
-        put_signed(out, third, 3, self.output_prefix_type)
+        let next = self.type_url.put(1, out, at);
+        let next = self.value.put(2, out, next);
+        self.output_prefix_type.put(3, out, next)
     }
 }

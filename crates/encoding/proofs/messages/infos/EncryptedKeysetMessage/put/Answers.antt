@@ -4,7 +4,7 @@ use Rattle.encoding.specs.Meanings.{encrypted_keyset_fields, keyset_info_fields}
 use Rattle.encoding.specs.Views.{fields_of_encrypted_keyset, fields_of_keyset_info, keyset_info_view}
 use Rattle.encoding.specs.Layings.{laid_as}
 use Rattle.encoding.specs.Sorts.{present_view}
-use Rattle.encoding.specs.Parts.{both, alone, text_is}
+use Rattle.encoding.specs.Parts.{both, alone}
 use Rattle.encoding.specs.EncryptedKeysets.{piece2, piece3, tail2}
 use Rattle.encoding.proofs.messages.infos.EncryptedKeysetMessage.put.Goals as goal
 
@@ -12,5 +12,5 @@ pub returns : goal.returns
 unfolding encrypted_keyset_fields fields_of_encrypted_keyset fields_of_keyset_info
 returns c =
     let r = c.args.self.now in
-    both (piece2 r) (tail2 r) _ _ _ _ _ _ (omega (arith, c.well_formed)) (text_is 2 _ _ _ _ _ _ c.as_slice.ensures c.put_text-second.ensures)
-    (alone (piece3 r) _ _ _ _ (laid_as _ _ _ _ _ _ (ap encode (present_view keyset_info_fields keyset_info_view 3 r.keyset_info)) c.put_present.ensures))
+    both (piece2 r) (tail2 r) _ _ _ _ _ _ (omega (arith, c.well_formed)) c.put-next.ensures
+    (alone (piece3 r) _ _ _ _ (laid_as _ _ _ _ _ _ (ap encode (present_view keyset_info_fields keyset_info_view 3 r.keyset_info)) c.put.ensures))

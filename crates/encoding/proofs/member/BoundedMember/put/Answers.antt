@@ -4,7 +4,7 @@ use Rattle.encoding.specs.Wire.{encode}
 use Rattle.encoding.specs.Members.{each}
 use Rattle.encoding.specs.Layings.{then, laid_as, laid_empty}
 use Rattle.encoding.specs.Parts.{each_more}
-use Rattle.encoding.proofs.put.put_each.Goals as goal
+use Rattle.encoding.proofs.member.BoundedMember.put.Goals as goal
 
 pub loop-one-init : goal.loop-one-init
 unfolding encode

@@ -3,7 +3,7 @@ use Rattle.std.proofs.lemmas.List.{take_all, length-append}
 use Rattle.encoding.specs.Wire.{encode, encode_field, bytes}
 use Rattle.encoding.specs.Members.{each}
 use Rattle.encoding.specs.Parts.{each_more}
-use Rattle.encoding.proofs.sizes.each_len.Goals as goal
+use Rattle.encoding.proofs.member.BoundedMember.size.Goals as goal
 
 pub loop-one-init : goal.loop-one-init
 unfolding encode
@@ -16,7 +16,7 @@ loop-one-preserved g c = λ k l.
       arith,
       c.saturating_add-total.ensures,
       c.loop-one.invariant k l,
-      c.record_len.ensures.size k l,
+      c.record_len.ensures k l,
       ap length more,
       length-append (encode (each g.R.Message.fields k (take c.loop-one.one-index c.as_slice-items.result.now))) (encode_field (bytes k (encode (g.R.Message.fields c.one-item.result)))),
     )

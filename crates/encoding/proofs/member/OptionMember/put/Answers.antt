@@ -3,7 +3,7 @@ use Rattle.encoding.specs.Wire.{encode}
 use Rattle.encoding.specs.Members.{present}
 use Rattle.encoding.specs.Layings.{laid_as, laid_empty}
 use Rattle.encoding.specs.Parts.{encode_one}
-use Rattle.encoding.proofs.put.put_present.Goals as goal
+use Rattle.encoding.proofs.member.OptionMember.put.Goals as goal
 
 pub returns-in-None : goal.returns-in-None
 unfolding encode
