@@ -90,7 +90,7 @@ impl Member for i32 {
         if *self != 0 || value == 0 {
             return Err(broken());
         }
-        *self = narrow(value).ok_or(broken())?;
+        *self = narrow(value).ok_or_else(broken)?;
         Ok(())
     }
 }

@@ -91,7 +91,7 @@ fn step<'a, R: Message>(made: &mut R, last: u64, rest: &'a [u8]) -> Result<Piece
     ensures { MatchResult result (λ p. Went R.fields made.old made.new rest.now p.size p.number)
         (λ f. Broken f × Stuck R.fields made.old rest.now) }
 {
-    let piece = scan(rest).ok_or(broken())?;
+    let piece = scan(rest).ok_or_else(broken)?;
     if piece.number < last {
         return Err(broken());
     }

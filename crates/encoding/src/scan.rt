@@ -16,8 +16,8 @@ pub(crate) struct Piece<'a> {
 pub(crate) fn scan(bytes: &[u8]) -> Option<Piece<'_>>
     ensures { MatchOption result (NoField bytes.now) (λ p. IsField bytes.now p) }
 {
-    let (key, k) = take_varint(bytes, 9)?;
-    let (value, n) = take_varint(&bytes[k..], 9)?;
+    let (key, k) = take_varint(bytes)?;
+    let (value, n) = take_varint(&bytes[k..])?;
     let number = key / 8;
     let head = k + n;
     match key % 8 {

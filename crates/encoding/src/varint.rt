@@ -75,7 +75,7 @@ pub(crate) fn put_varint(out: &mut [u8], at: usize, value: u64) -> usize
 }
 
 // The number at the front and how many bytes it takes, of at most `left` before the last.
-pub(crate) fn take_varint(bytes: &[u8], left: u8) -> Option<(u64, usize)>
+fn take_digits(bytes: &[u8], left: u8) -> Option<(u64, usize)>
     requires few { left ≤ 9 }
     ensures { result ≡ unvarint left bytes.now }
 {
@@ -89,9 +89,19 @@ pub(crate) fn take_varint(bytes: &[u8], left: u8) -> Option<(u64, usize)>
     if left == 0 {
         return None;
     }
-    let (v, n) = take_varint(rest, left - 1)?;
+    let (v, n) = take_digits(rest, left - 1)?;
     if v == 0 {
         return None;
     }
     Some(((b - 128) as u64 + 128 * v, n + 1))
+}
+
+pub(crate) fn take_varint(bytes: &[u8]) -> Option<(u64, usize)>
+    ensures { result ≡ unvarint 9 bytes.now }
+{
+    match bytes.first() {
+        // Most are one byte.
+        Some(&b) if b < 128 => Some((b as u64, 1)),
+        _ => take_digits(bytes, 9),
+    }
 }

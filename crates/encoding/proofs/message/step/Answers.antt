@@ -1,5 +1,5 @@
-use Rattle.std.proofs.Common.{arith, rules}
-use Rattle.std.proofs.lemmas.Option.{MatchOption-at_some}
+use Rattle.std.proofs.Common.{◌≡◌, Some, None, Option, MatchOption, Ok, Result, subst, arith, rules}
+use Rattle.ciphers.specs.declared.fault.Fault.{Fault}
 use Rattle.std.proofs.lemmas.Result.{err_from_is_err_and}
 use Rattle.encoding.specs.Messages.{Ordered}
 use Rattle.encoding.specs.Orders.{lower}
@@ -13,8 +13,12 @@ use Rattle.encoding.proofs.message.step.Goals.{In_ok-piece}
 ordered : (g : given.Over) (r : g.row.R.Denot) → Ordered g.R.Message.knows 0 15 (g.R.Message.fields r)
 ordered g r = lower g.R.Message.knows 1 0 15 (g.R.Message.fields r) (omega arith) (g.met.R.Message.sound r).ordered
 
+some : {T : Type 0} (P : Type 0) (Q : T → Type 0) (o : Option T) (x : T) → MatchOption o ⊥ (λ y. ◌≡◌ {A = Result T Fault} (Ok x) (Ok y)) → MatchOption o P Q → Q x
+some P Q None x e h = absurd e
+some P Q (Some y) x e h = let z : y ≡ x = cc in subst Q z h
+
 found : (g : given.Over) (c : In_ok-piece g) → IsField c.args.rest.now c.in_ok-piece.piece
-found g c = MatchOption-at_some _ _ _ c.in_ok-piece.ensures.ok_part c.scan.ensures
+found g c = some _ _ c.scan.result c.in_ok-piece.piece c.in_ok-piece.ensures.cases c.scan.ensures
 
 pub returns-then-piece-last : goal.returns-then-piece-last
 returns-then-piece-last g c = (

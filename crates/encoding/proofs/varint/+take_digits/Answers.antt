@@ -1,7 +1,7 @@
 use Rattle.std.proofs.Common.{◌≡◌, ℕ, ◌<◌, List, ◌∷◌, get_or, Fits, w8, sym, ap, arith, rules}
 use Rattle.std.proofs.lemmas.Bool.{eq-eqb, ne_eqb}
 use Rattle.encoding.specs.Varints.{un_none, un_more, un_bad_last, un_last, un_long, sound, cap_room}
-use Rattle.encoding.proofs.varint.+take_varint.Goals as goal
+use Rattle.encoding.proofs.varint.+take_digits.Goals as goal
 
 -- the first byte is a byte
 byte : (bs : List ℕ) (b : ℕ) (rest : List ℕ) → bs ≡ b ∷ rest → Fits w8 (get_or bs 0 0) → b < 256
