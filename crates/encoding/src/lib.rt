@@ -10,7 +10,7 @@ mod member;
 pub mod message;
 pub mod messages;
 pub mod numbers;
-mod put;
+pub mod output;
 pub mod records;
 mod scan;
 mod sizes;

@@ -13,7 +13,7 @@ ghost use Rattle.encoding.specs.Messages.{Broken, Filled};
 use crate::bounded::Bounded;
 use crate::content::{Content, broken};
 use crate::message::{Message, read};
-use crate::put::{put_record, put_text, put_unsigned, wide};
+use crate::output::Output;
 use crate::sizes::{record_len, text_len, unsigned_len};
 use crate::url::TypeUrl;
 use ciphers::fault::Fault;
@@ -29,10 +29,10 @@ pub(crate) trait Member {
     fn size(&self) -> usize
         ensures { (k : ℕ) → k < 16 → Counted (encode (part k self.now)) result };
 
-    // Lays it over the output from a place on, as far as it reaches, and answers where it would end.
-    fn put(&self, field: u64, out: &mut [u8], at: usize) -> usize
+    // Lays it over the output, as far as it reaches.
+    fn put(&self, field: u64, out: &mut Output<'_>)
         requires { field < 16 }
-        ensures { Laid (encode (part field self.now)) out.old at out.new result };
+        ensures { Laid (encode (part field self.now)) out.old out.new };
 
     // Takes one more field, where it was absent and the value is within its limits.
     fn fill(&mut self, content: Content<'_>) -> Result<(), Fault>
@@ -50,8 +50,8 @@ impl Member for u32 {
         unsigned_len(*self as u64)
     }
 
-    fn put(&self, field: u64, out: &mut [u8], at: usize) -> usize {
-        put_unsigned(out, at, field, *self as u64)
+    fn put(&self, field: u64, out: &mut Output<'_>) {
+        out.unsigned(field, *self as u64);
     }
 
     fn fill(&mut self, content: Content<'_>) -> Result<(), Fault> {
@@ -63,6 +63,13 @@ impl Member for u32 {
             _ => Err(broken()),
         }
     }
+}
+
+// The 64 bits of a signed number.
+fn wide(x: i32) -> u64
+    ensures { result ≡ of_z w64 x }
+{
+    i64::from(x).cast_unsigned()
 }
 
 // The signed number whose 64 bits are `v`, if it has 32.
@@ -81,8 +88,8 @@ impl Member for i32 {
         unsigned_len(wide(*self))
     }
 
-    fn put(&self, field: u64, out: &mut [u8], at: usize) -> usize {
-        put_unsigned(out, at, field, wide(*self))
+    fn put(&self, field: u64, out: &mut Output<'_>) {
+        out.unsigned(field, wide(*self));
     }
 
     fn fill(&mut self, content: Content<'_>) -> Result<(), Fault> {
@@ -104,8 +111,8 @@ impl<const N: usize> Member for Bounded<u8, N> {
         text_len(self.len())
     }
 
-    fn put(&self, field: u64, out: &mut [u8], at: usize) -> usize {
-        put_text(out, at, field, self.as_slice())
+    fn put(&self, field: u64, out: &mut Output<'_>) {
+        out.text(field, self.as_slice());
     }
 
     fn fill(&mut self, content: Content<'_>) -> Result<(), Fault> {
@@ -127,8 +134,8 @@ impl Member for TypeUrl {
         text_len(self.as_bytes().len())
     }
 
-    fn put(&self, field: u64, out: &mut [u8], at: usize) -> usize {
-        put_text(out, at, field, self.as_bytes())
+    fn put(&self, field: u64, out: &mut Output<'_>) {
+        out.text(field, self.as_bytes());
     }
 
     fn fill(&mut self, content: Content<'_>) -> Result<(), Fault> {
@@ -150,14 +157,13 @@ impl<R: Message> Member for Option<R> {
     fn size(&self) -> usize {
         match self {
             None => 0,
-            Some(one) => record_len(one),
+            Some(inner) => record_len(inner),
         }
     }
 
-    fn put(&self, field: u64, out: &mut [u8], at: usize) -> usize {
-        match self {
-            None => at,
-            Some(one) => put_record(out, at, field, one),
+    fn put(&self, field: u64, out: &mut Output<'_>) {
+        if let Some(inner) = self {
+            out.record(field, inner);
         }
     }
 
@@ -185,13 +191,10 @@ impl<R: Message, const N: usize> Member for Bounded<R, N> {
         total
     }
 
-    fn put(&self, field: u64, out: &mut [u8], at: usize) -> usize {
-        let mut end = at;
-        let items = self.as_slice();
-        for one in items {
-            end = put_record(out, end, field, one);
+    fn put(&self, field: u64, out: &mut Output<'_>) {
+        for one in self.as_slice() {
+            out.record(field, one);
         }
-        end
     }
 
     fn fill(&mut self, content: Content<'_>) -> Result<(), Fault> {

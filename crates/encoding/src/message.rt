@@ -6,6 +6,7 @@ ghost use Rattle.encoding.specs.Messages.{Broken, Sound, Took, Unread, Unwritten
 ghost use Rattle.encoding.specs.Scanning.{field_of};
 
 use crate::content::{Content, broken};
+use crate::output::Output;
 use crate::scan::{Piece, scan};
 use ciphers::fault::{Fault, Layer, Refusal};
 
@@ -38,12 +39,17 @@ pub trait Message: Copy {
         ensures { result ≡ length (encode (fields self.now)) }
     {
         let mut none = [0; 0];
-        self.put(&mut none, 0)
+        let mut output = Output {
+            out: &mut none,
+            at: 0,
+        };
+        self.put(&mut output);
+        output.at
     }
 
-    // Lays the encoding over the output from a place on, as far as it reaches, and answers where it would end.
-    fn put(&self, out: &mut [u8], at: usize) -> usize
-        ensures { Laid (encode (fields self.now)) out.old at out.new result };
+    // Lays the encoding over the output, as far as it reaches.
+    fn put(&self, out: &mut Output<'_>)
+        ensures { Laid (encode (fields self.now)) out.old out.new };
 
     // The fields are in order, with numbers from 1 to 15, known, and within the largest size.
     ghost sound: { (r : Self) → Sound knows 1 15 LARGEST (fields r) };
@@ -81,7 +87,9 @@ pub fn write<R: Message>(record: &R, out: &mut [u8]) -> Result<usize, Fault>
     if !fits(record, out.len()) {
         return Err(Fault::new(Refusal::WrongSize, Layer::Encoding));
     }
-    Ok(record.put(out, 0))
+    let mut output = Output { out, at: 0 };
+    record.put(&mut output);
+    Ok(output.at)
 }
 
 // One more field, from the front of `rest`; or a refusal where no record goes on so. `last` is the number of the field

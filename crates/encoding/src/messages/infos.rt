@@ -11,6 +11,7 @@ use crate::bounded::Bounded;
 use crate::content::{Content, broken};
 use crate::member::Member;
 use crate::message::Message;
+use crate::output::Output;
 use crate::records::{EncryptedKeyset, KeyInfo, KeysetInfo};
 use crate::url::TypeUrl;
 use ciphers::fault::Fault;
@@ -59,11 +60,11 @@ impl Message for KeyInfo {
             .saturating_add(self.output_prefix_type.size())
     }
 
-    fn put(&self, out: &mut [u8], at: usize) -> usize {
-        let next = self.type_url.put(1, out, at);
-        let next = self.status.put(2, out, next);
-        let next = self.key_id.put(3, out, next);
-        self.output_prefix_type.put(4, out, next)
+    fn put(&self, out: &mut Output<'_>) {
+        self.type_url.put(1, out);
+        self.status.put(2, out);
+        self.key_id.put(3, out);
+        self.output_prefix_type.put(4, out);
     }
 }
 
@@ -110,9 +111,9 @@ impl Message for KeysetInfo {
             .saturating_add(self.key_info.size())
     }
 
-    fn put(&self, out: &mut [u8], at: usize) -> usize {
-        let next = self.primary_key_id.put(1, out, at);
-        self.key_info.put(2, out, next)
+    fn put(&self, out: &mut Output<'_>) {
+        self.primary_key_id.put(1, out);
+        self.key_info.put(2, out);
     }
 }
 
@@ -154,8 +155,8 @@ impl Message for EncryptedKeyset {
             .saturating_add(self.keyset_info.size())
     }
 
-    fn put(&self, out: &mut [u8], at: usize) -> usize {
-        let next = self.encrypted_keyset.put(2, out, at);
-        self.keyset_info.put(3, out, next)
+    fn put(&self, out: &mut Output<'_>) {
+        self.encrypted_keyset.put(2, out);
+        self.keyset_info.put(3, out);
     }
 }

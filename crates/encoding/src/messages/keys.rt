@@ -11,6 +11,7 @@ use crate::bounded::Bounded;
 use crate::content::{Content, broken};
 use crate::member::Member;
 use crate::message::Message;
+use crate::output::Output;
 use crate::records::{Key, KeyData, Keyset};
 use crate::url::TypeUrl;
 use ciphers::fault::Fault;
@@ -56,10 +57,10 @@ impl Message for KeyData {
             .saturating_add(self.key_material_type.size())
     }
 
-    fn put(&self, out: &mut [u8], at: usize) -> usize {
-        let next = self.type_url.put(1, out, at);
-        let next = self.value.put(2, out, next);
-        self.key_material_type.put(3, out, next)
+    fn put(&self, out: &mut Output<'_>) {
+        self.type_url.put(1, out);
+        self.value.put(2, out);
+        self.key_material_type.put(3, out);
     }
 }
 
@@ -107,11 +108,11 @@ impl Message for Key {
             .saturating_add(self.output_prefix_type.size())
     }
 
-    fn put(&self, out: &mut [u8], at: usize) -> usize {
-        let next = self.key_data.put(1, out, at);
-        let next = self.status.put(2, out, next);
-        let next = self.key_id.put(3, out, next);
-        self.output_prefix_type.put(4, out, next)
+    fn put(&self, out: &mut Output<'_>) {
+        self.key_data.put(1, out);
+        self.status.put(2, out);
+        self.key_id.put(3, out);
+        self.output_prefix_type.put(4, out);
     }
 }
 
@@ -156,8 +157,8 @@ impl Message for Keyset {
         self.primary_key_id.size().saturating_add(self.key.size())
     }
 
-    fn put(&self, out: &mut [u8], at: usize) -> usize {
-        let next = self.primary_key_id.put(1, out, at);
-        self.key.put(2, out, next)
+    fn put(&self, out: &mut Output<'_>) {
+        self.primary_key_id.put(1, out);
+        self.key.put(2, out);
     }
 }

@@ -9,6 +9,7 @@ use crate::bounded::Bounded;
 use crate::content::{Content, broken};
 use crate::member::Member;
 use crate::message::Message;
+use crate::output::Output;
 use crate::records::KeyTemplate;
 use crate::url::TypeUrl;
 use ciphers::fault::Fault;
@@ -54,9 +55,9 @@ impl Message for KeyTemplate {
             .saturating_add(self.output_prefix_type.size())
     }
 
-    fn put(&self, out: &mut [u8], at: usize) -> usize {
-        let next = self.type_url.put(1, out, at);
-        let next = self.value.put(2, out, next);
-        self.output_prefix_type.put(3, out, next)
+    fn put(&self, out: &mut Output<'_>) {
+        self.type_url.put(1, out);
+        self.value.put(2, out);
+        self.output_prefix_type.put(3, out);
     }
 }

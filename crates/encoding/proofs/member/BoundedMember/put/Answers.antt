@@ -8,14 +8,14 @@ use Rattle.encoding.proofs.member.BoundedMember.put.Goals as goal
 
 pub loop-one-init : goal.loop-one-init
 unfolding encode
-loop-one-init g c = laid_empty _ _ _ (omega arith) refl
+loop-one-init g c = laid_empty _ _ refl
 
 pub loop-one-preserved : goal.loop-one-preserved
 loop-one-preserved g c =
-    laid_as _ _ _ _ _ _ (sym (each_more g.R.Message.fields c.args.field c.as_slice-items.result.now c.loop-one.one-index c.one-item.result c.loop-one-test.true c.one-item.is))
-    (then _ _ _ _ _ _ _ _ (omega (arith, c.well_formed)) c.loop-one.invariant c.put_record-end.ensures)
+    laid_as _ _ _ _ (sym (each_more g.R.Message.fields c.args.field c.as_slice-one-items.result.now c.loop-one.one-index c.one-item.result c.loop-one-test.true c.one-item.is))
+    (then _ _ _ _ _ (omega (arith, c.well_formed)) c.loop-one.invariant c.record.ensures)
 
 pub returns : goal.returns
 returns g c =
-    laid_as _ _ _ _ _ _ (ap (λ (xs : List g.row.R.Denot). encode (each g.R.Message.fields c.args.field xs))
-    (take_all c.loop-one.one-index c.as_slice-items.result.now c.loop-one-test.false ∙ c.as_slice-items.ensures)) c.loop-one.invariant
+    laid_as _ _ _ _ (ap (λ (xs : List g.row.R.Denot). encode (each g.R.Message.fields c.args.field xs))
+    (take_all c.loop-one.one-index c.as_slice-one-items.result.now c.loop-one-test.false ∙ c.as_slice-one-items.ensures)) c.loop-one.invariant

@@ -12,5 +12,5 @@ pub returns : goal.returns
 unfolding encrypted_keyset_fields fields_of_encrypted_keyset fields_of_keyset_info
 returns c =
     let r = c.args.self.now in
-    both (piece2 r) (tail2 r) _ _ _ _ _ _ (omega (arith, c.well_formed)) c.put-next.ensures
-    (alone (piece3 r) _ _ _ _ (laid_as _ _ _ _ _ _ (ap encode (present_view keyset_info_fields keyset_info_view 3 r.keyset_info)) c.put.ensures))
+    both (piece2 r) (tail2 r) _ _ _ (omega arith) c.put.ensures
+    (alone (piece3 r) _ _ (laid_as _ _ _ _ (ap encode (present_view keyset_info_fields keyset_info_view 3 r.keyset_info)) c.put-2.ensures))

@@ -13,5 +13,5 @@ pub returns : goal.returns
 unfolding keyset_fields fields_of_keyset fields_of_key
 returns c =
     let r = c.args.self.now in
-    both (piece1 r) (tail1 r) _ _ _ _ _ _ (omega (arith, c.well_formed)) c.put-next.ensures
-    (alone (piece2 r) _ _ _ _ (laid_as _ _ _ _ _ _ (ap encode (each_view key_fields key_view 2 (list r.key))) c.put.ensures))
+    both (piece1 r) (tail1 r) _ _ _ (omega arith) c.put.ensures
+    (alone (piece2 r) _ _ (laid_as _ _ _ _ (ap encode (each_view key_fields key_view 2 (list r.key))) c.put-2.ensures))
