@@ -1,14 +1,17 @@
 -- Records inside records: one that may be absent, and a list of them.
-use Rattle.std.proofs.Common.{◌≡◌, ℕ, suc, List, [], ◌∷◌, ◌++◌, map, length, Some, None, Option, ap, ◌∙◌, arith}
+use Rattle.std.proofs.Common.{◌≡◌, ℕ, suc, ◌<◌, List, [], ◌∷◌, ◌++◌, map, length, Some, None, Option, Ok, Err, Result, MatchResult, is_ok, ap, ◌∙◌, arith}
 use Rattle.std.proofs.lemmas.List.{length-append, length-map, map_push}
-use Rattle.encoding.specs.Wire.{Field, bytes, encode}
+use Rattle.encoding.specs.Wire.{Field, number, bytes, encode}
 use Rattle.encoding.specs.Members.{present, each}
-use Rattle.encoding.specs.Messages.{Unread}
+use Rattle.encoding.specs.Messages.{Filled, Unread}
 use Rattle.encoding.specs.Lists.{list}
 use Rattle.encoding.specs.declared.bounded.Bounded.{Bounded}
 use Rattle.encoding.specs.ListsLemmas.{list_length}
 use Rattle.encoding.proofs.Places.{never_place}
+use Rattle.ciphers.specs.Faults.{fault}
 use Rattle.ciphers.specs.declared.fault.Fault.{Fault}
+use Rattle.ciphers.specs.declared.fault.Refusal.TheVariants.{BreaksEncoding}
+use Rattle.ciphers.specs.declared.fault.Layer.TheVariants.{Encoding}
 
 -- bytes that its reader refuses are no record's
 pub present_bad : {R : Type 0} (fields : R → List Field) (k : ℕ) (old new : Option R) (bs : List ℕ) (f : Fault) (gs : List Field) → Unread fields bs f
@@ -36,3 +39,20 @@ one_of fields k (x ∷ xs) (g ∷ fs) bs gs e = let t : each fields k xs ≡ fs 
 
 pub each_bad : {R : Type 0} (fields : R → List Field) (k : ℕ) (old new : List R) (bs : List ℕ) (f : Fault) (gs : List Field) → Unread fields bs f → each fields k new ≡ each fields k old ++ (bytes k bs ∷ gs) → ⊥
 each_bad fields k old new bs f gs u e = let q = one_of fields k new (each fields k old) bs gs e in never_place fields bs f.place q.0 q.1 u.place_is
+
+-- records in a list are written as bytes
+pub each_number : {R : Type 0} (fields : R → List Field) (k : ℕ) (xs ys : List R) (j v : ℕ) (gs : List Field) → each fields k xs ≡ each fields k ys ++ (number j v ∷ gs) → ⊥
+each_number fields k [] [] j v gs e = omega (arith, ap length e)
+each_number fields k [] (y ∷ ys) j v gs e = omega (arith, ap length e)
+each_number fields k (x ∷ xs) [] j v gs e = let z : ◌≡◌ {A = ℕ} 0 1 = cc in omega arith
+each_number fields k (x ∷ xs) (y ∷ ys) j v gs e = let t : each fields k xs ≡ each fields k ys ++ (number j v ∷ gs) = cc in each_number fields k xs ys j v gs t
+
+-- a record that was read, at the end of a list with room for it or not
+pub each_pushed : {R : Type 0} {n : ℕ} (fields : R → List Field) (k : ℕ) (r : Result (Unit {0}) Fault) (old new : Bounded R n) (made : R) (bs : List ℕ) → encode (fields made) ≡ bs
+    → MatchResult r (λ _. (length (list old) < n) × (list new ≡ list old ++ (made ∷ []))) (λ f. (f ≡ fault BreaksEncoding Encoding) × (length (list old) ≡ n) × (new ≡ old))
+    → Filled (λ b. each fields k (list b)) (λ _. Unit {0}) (is_ok r) old new (bytes k bs)
+each_pushed fields k (Ok x) old new made bs e h = each_push fields k (list old) (list new) made bs h.1 e
+each_pushed {R} {n} fields k (Err f) old new made bs e h = (
+  ap (λ (b : Bounded R n). each fields k (list b)) h.2,
+  λ v gs _. each_full fields k old v (bytes k bs) gs h.1,
+)

@@ -1,15 +1,14 @@
 -- Reading a record field by field, and the place of a refusal.
-use Rattle.std.proofs.Common.{◌≡◌, ℕ, ◌+◌, ◌-◌, ◌<◌, ◌≤◌, Bool, true, false, cond, List, [], ◌∷◌, ◌++◌, length, take, drop, sym, refl, ap, ◌∙◌, subst, inl, inr, arith}
+use Rattle.std.proofs.Common.{◌≡◌, ℕ, ◌+◌, ◌-◌, ◌<◌, ◌≤◌, Bool, true, false, List, [], ◌∷◌, ◌++◌, length, take, drop, sym, ap, ◌∙◌, subst, inl, inr, arith}
 use Rattle.std.specs.List.{AllByRecursion}
 use Rattle.std.proofs.lemmas.List.{append_assoc, take-append-drop, length-take-le, length-drop, take_at, take_all}
 use Rattle.std.proofs.lemmas.Bool.{cases_lt}
-use Rattle.std.proofs.lemmas.Bool.Decides.{when_true, when_false}
 use Rattle.ciphers.specs.Faults.{fault, placed}
 use Rattle.ciphers.specs.declared.fault.Fault.{Fault}
 use Rattle.ciphers.specs.declared.fault.Refusal.TheVariants.{BreaksEncoding}
 use Rattle.ciphers.specs.declared.fault.Layer.TheVariants.{Encoding}
-use Rattle.encoding.specs.Wire.{Field, number, bytes, number_of, encode_field, encode, Small}
-use Rattle.encoding.specs.Scanning.{IsField, field_at}
+use Rattle.encoding.specs.Wire.{Field, number_of, encode_field, encode, Small}
+use Rattle.encoding.specs.Scanning.{IsField, field_of, number_is}
 use Rattle.encoding.specs.Messages.{Ordered, Took, up_to, past, Place, last_of, Went, Stuck, Unread}
 use Rattle.encoding.specs.declared.scan.Piece.{Piece}
 use Rattle.encoding.specs.Fields.{field_unique, fields_split, take_split, encode_push}
@@ -43,48 +42,41 @@ went_more fields bs at n k old new l e w =
     (in-range, ap encode w.added ∙ encode_push (fields old) w.field ∙ ap (λ (x : List ℕ). x ++ encode_field w.field) e ∙ ap (λ (x : List ℕ). take at bs ++ x) (sym one) ∙ sym cut)
 
 -- the field at the front stands before the last one: no record goes on so
-pub early : {R : Type 0} (fields : R → List Field) (K : Field → Bool) → ((r : R) → Ordered K 0 15 (fields r)) → (old : R) (bs : List ℕ) (p : Piece) → IsField bs p → number_of (field_at bs p) < last_of 0 (fields old)
+pub early : {R : Type 0} (fields : R → List Field) (K : Field → Bool) → ((r : R) → Ordered K 0 15 (fields r)) → (old : R) (bs : List ℕ) (p : Piece) → IsField bs p → number_of (field_of p.number p.content) < last_of 0 (fields old)
     → Stuck fields old bs
 early fields K ordered old bs p i l f rest small q s gs a =
-    let u = field_unique f (field_at bs p) rest (drop p.size bs) small i.small (sym q ∙ i.front) in
+    let u = field_unique f (field_of p.number p.content) rest (drop p.size bs) small i.small (sym q ∙ i.front) in
     omega (arith, ap number_of u.0, last_before K 0 15 (fields old) f gs (subst (Ordered K 0 15) a (ordered s)))
 
 -- in order, one more field goes to the end
 pub at_end : {R : Type 0} (fields : R → List Field) (K : Field → Bool) → ((r : R) → Ordered K 0 15 (fields r)) → (old : R) (k : ℕ) → last_of 0 (fields old) ≤ k → (up_to k (fields old) ≡ fields old) × (past k (fields old) ≡ [])
 at_end fields K ordered old k l = up_to_last K 0 15 k (fields old) (ordered old) l
 
-pub refused : {R : Type 0} (fields : R → List Field) (K : Field → Bool) → ((r : R) → Ordered K 0 15 (fields r)) → (old new : R) (bs : List ℕ) (p : Piece) (g : Field) (r : Bool)
-    → IsField bs p → field_at bs p ≡ g → last_of 0 (fields old) ≤ number_of g → r ≡ false → Took fields r old new g → Stuck fields old bs
-refused fields K ordered old new bs p g r i same l e t f rest small q s gs a =
-    let u = field_unique f (field_at bs p) rest (drop p.size bs) small i.small (sym q ∙ i.front) in
-    let no = when_false _ _ e t in
-    no.1 s gs (a ∙ ap (λ x. fields old ++ (x ∷ gs)) (u.0 ∙ same) ∙ ap (λ x. x ++ (g ∷ gs)) (sym (at_end fields K ordered old (number_of g) l).0))
+pub refused : {R : Type 0} (fields : R → List Field) (K : Field → Bool) → ((r : R) → Ordered K 0 15 (fields r)) → (old new : R) (bs : List ℕ) (p : Piece)
+    → IsField bs p → last_of 0 (fields old) ≤ p.number → Took fields false old new (field_of p.number p.content) → Stuck fields old bs
+refused fields K ordered old new bs p i l t f rest small q s gs a =
+    let g : Field = field_of p.number p.content in
+    let u = field_unique f g rest (drop p.size bs) small i.small (sym q ∙ i.front) in
+    t.1 s gs (a ∙ ap (λ x. fields old ++ (x ∷ gs)) u.0 ∙ ap (λ x. x ++ (g ∷ gs)) (sym (at_end fields K ordered old (number_of g) (omega (arith, number_is p.number p.content))).0))
 
-pub taken : {R : Type 0} (fields : R → List Field) (K : Field → Bool) → ((r : R) → Ordered K 0 15 (fields r)) → (old new : R) (bs : List ℕ) (p : Piece) (g : Field) (r : Bool)
-    → IsField bs p → field_at bs p ≡ g → number_of g ≡ p.number → last_of 0 (fields old) ≤ number_of g → r ≡ true → Took fields r old new g → Went fields old new bs p.size p.number
-taken fields K ordered old new bs p g r i same n l e t =
-    let yes = when_true _ _ e t in
-    let en = at_end fields K ordered old (number_of g) l in
+pub taken : {R : Type 0} (fields : R → List Field) (K : Field → Bool) → ((r : R) → Ordered K 0 15 (fields r)) → (old new : R) (bs : List ℕ) (p : Piece)
+    → IsField bs p → last_of 0 (fields old) ≤ p.number → Took fields true old new (field_of p.number p.content) → Went fields old new bs p.size p.number
+taken fields K ordered old new bs p i l t =
+    let g : Field = field_of p.number p.content in
+    let en = at_end fields K ordered old (number_of g) (omega (arith, number_is p.number p.content)) in
     record {
       field = g;
-      front = subst (λ (f : Field). bs ≡ encode_field f ++ drop p.size bs) same i.front;
-      size = subst (λ (f : Field). p.size ≡ length (encode_field f)) same i.size;
+      front = i.front;
+      size = i.size;
       within = i.within;
       some = i.some;
-      number = sym n;
-      added = yes ∙ ap (λ x. x ++ (g ∷ past (number_of g) (fields old))) en.0 ∙ ap (λ x. fields old ++ (g ∷ x)) en.1;
+      number = sym (number_is p.number p.content);
+      added = t ∙ ap (λ x. x ++ (g ∷ past (number_of g) (fields old))) en.0 ∙ ap (λ x. fields old ++ (g ∷ x)) en.1;
     }
 
 -- the reader accepts what is a record's encoding
 pub never_place : {R : Type 0} (fields : R → List Field) (bs : List ℕ) (at : ℕ) (r : R) → encode (fields r) ≡ bs → Place fields bs at → ⊥
 never_place fields bs at r e p = omega (arith, p.early, p.longest r (length bs) (omega arith) (e ∙ sym (take_all (length bs) bs (omega arith))))
-
-pub piece_number : (bs : List ℕ) (p : Piece) → number_of (field_at bs p) ≡ p.number
-piece_number bs p = go p.delimited
-  where
-    go : (b : Bool) → number_of (cond b (bytes p.number (take (p.size - p.head) (drop p.head bs))) (number p.number p.value)) ≡ p.number
-    go true = refl
-    go false = refl
 
 pub unread : {R : Type 0} (fields : R → List Field) (bs : List ℕ) (at : ℕ) (f : Fault) → f ≡ placed at (fault BreaksEncoding Encoding) → Place fields bs at → Unread fields bs f
 unread fields bs at f whole h =

@@ -1,8 +1,9 @@
 -- What two varints at the front of some bytes say of the field there.
-use Rattle.std.proofs.Common.{◌≡◌, ℕ, ◌+◌, ◌-◌, ◌*◌, ◌/◌, ◌%◌, ◌<◌, ◌≤◌, true, false, ◌⊎◌, List, [], ◌++◌, length, take, drop, Some, None, sym, refl, ap, ◌∙◌, inl, inr, arith}
-use Rattle.std.proofs.lemmas.List.{length-append, append_assoc, take-append-drop, length-take-le, length-drop, drop-drop, drop_at}
+use Rattle.std.proofs.Common.{Bor, ◌≡◌, ℕ, ◌+◌, ◌*◌, ◌/◌, ◌%◌, ◌<◌, ◌≤◌, ◌⊎◌, List, [], ◌++◌, length, take, drop, Some, None, sym, refl, ap, ◌∙◌, inl, inr, arith}
+use Rattle.std.proofs.lemmas.List.{length-append, append_assoc, take-append-drop, length-drop, drop-drop, drop_at}
 use Rattle.encoding.specs.Wire.{varint, Field, number, bytes, encode_field, Small}
 use Rattle.encoding.specs.Scanning.{cap, unvarint, IsField, NoField}
+use Rattle.encoding.specs.declared.content.Content.TheVariants.{Number, Bytes}
 use Rattle.encoding.specs.Varints.{Reads, complete, sound, first, second, none-some, cap_nine}
 
 abbrev key_of : Field → ℕ
@@ -83,7 +84,7 @@ both : (bs : List ℕ) (key k v n : ℕ) → Reads 9 bs key k → Reads 9 (drop 
 both bs key k v n a b = a.front ∙ ap (λ (x : List ℕ). varint key ++ x) (b.front ∙ ap (λ (x : List ℕ). varint v ++ x) (drop-drop n k bs))
 
 pub is_number : (bs : List ℕ) (key k v n : ℕ) → Some (key, k) ≡ unvarint 9 bs → Some (v, n) ≡ unvarint 9 (drop k bs) → key % 8 ≡ 0
-    → IsField bs (record { number = key / 8; delimited = false; value = v; head = k; size = k + n })
+    → IsField bs (record { number = key / 8; content = Number v; size = k + n })
 unfolding encode_field Small
 is_number bs key k v n h j even =
     let a = sound 9 bs key k (sym h) in
@@ -95,36 +96,34 @@ is_number bs key k v n h j even =
       size = sym sum;
       small = (omega (arith, a.small, cap_nine), omega (arith, b.small, cap_nine));
       within = omega (arith, a.within, b.within, length-drop k bs);
-      ahead = omega arith;
       some = omega (arith, a.some);
     }
 
-pub is_bytes : (bs : List ℕ) (key k v n : ℕ) → Some (key, k) ≡ unvarint 9 bs → Some (v, n) ≡ unvarint 9 (drop k bs) → key % 8 ≡ 2 → n + v ≤ length (drop k bs)
-    → IsField bs (record { number = key / 8; delimited = true; value = v; head = k + n; size = (k + n) + v })
+pub is_bytes : (bs : List ℕ) (key k v n : ℕ) (pay : Bor (List ℕ)) → Some (key, k) ≡ unvarint 9 bs → Some (v, n) ≡ unvarint 9 (drop k bs) → key % 8 ≡ 2
+    → pay.now ≡ take v (drop (k + n) bs) → length pay.now ≡ v → v ≤ length (drop (k + n) bs)
+    → IsField bs (record { number = key / 8; content = Bytes pay; size = (k + n) + length pay.now })
 unfolding encode_field Small
-is_bytes bs key k v n h j two l =
+is_bytes bs key k v n pay h j two pe pl vl =
     let a = sound 9 bs key k (sym h) in
     let b = sound 9 (drop k bs) v n (sym j) in
     let eight : 8 * (key / 8) + 2 ≡ key = omega arith in
-    let diff : ((k + n) + v) - (k + n) ≡ v = omega arith in
-    let pay : List ℕ = take (((k + n) + v) - (k + n)) (drop (k + n) bs) in
-    let plen : length pay ≡ v = length-take-le (((k + n) + v) - (k + n)) (drop (k + n) bs) (omega (arith, length-drop k bs, length-drop (k + n) bs)) ∙ diff in
-    let cut : drop (k + n) bs ≡ pay ++ drop ((k + n) + v) bs = sym (take-append-drop (((k + n) + v) - (k + n)) (drop (k + n) bs)) ∙ ap (λ (x : List ℕ). pay ++ x) (ap (λ (x : ℕ). drop x (drop (k + n) bs)) diff ∙ drop-drop v (k + n) bs) in
-    let whole : bs ≡ varint (8 * (key / 8) + 2) ++ (varint (length pay) ++ (pay ++ drop ((k + n) + v) bs)) =
+    let size : ℕ = (k + n) + length pay.now in
+    let cut : drop (k + n) bs ≡ pay.now ++ drop size bs = sym (take-append-drop v (drop (k + n) bs)) ∙ ap (λ (x : List ℕ). x ++ drop v (drop (k + n) bs)) (sym pe)
+    ∙ ap (λ (x : ℕ). pay.now ++ drop x (drop (k + n) bs)) (sym pl) ∙ ap (λ (x : List ℕ). pay.now ++ x) (drop-drop (length pay.now) (k + n) bs) in
+    let whole : bs ≡ varint (8 * (key / 8) + 2) ++ (varint (length pay.now) ++ (pay.now ++ drop size bs)) =
     both bs key k v n a b ∙ ap (λ (x : List ℕ). varint key ++ (varint v ++ x)) cut
-    ∙ ap (λ (x : ℕ). varint x ++ (varint v ++ (pay ++ drop ((k + n) + v) bs))) (sym eight)
-    ∙ ap (λ (x : ℕ). varint (8 * (key / 8) + 2) ++ (varint x ++ (pay ++ drop ((k + n) + v) bs))) (sym plen) in
-    let sum : length (varint (8 * (key / 8) + 2) ++ (varint (length pay) ++ pay)) ≡ (k + n) + v =
-    length-append (varint (8 * (key / 8) + 2)) (varint (length pay) ++ pay)
-    ∙ ap (λ (x : ℕ). length (varint (8 * (key / 8) + 2)) + x) (length-append (varint (length pay)) pay)
-    ∙ ap (λ (x : ℕ). length (varint x) + (length (varint (length pay)) + length pay)) eight
-    ∙ ap (λ (x : ℕ). length (varint key) + (length (varint x) + x)) plen
+    ∙ ap (λ (x : ℕ). varint x ++ (varint v ++ (pay.now ++ drop size bs))) (sym eight)
+    ∙ ap (λ (x : ℕ). varint (8 * (key / 8) + 2) ++ (varint x ++ (pay.now ++ drop size bs))) (sym pl) in
+    let sum : length (varint (8 * (key / 8) + 2) ++ (varint (length pay.now) ++ pay.now)) ≡ size =
+    length-append (varint (8 * (key / 8) + 2)) (varint (length pay.now) ++ pay.now)
+    ∙ ap (λ (x : ℕ). length (varint (8 * (key / 8) + 2)) + x) (length-append (varint (length pay.now)) pay.now)
+    ∙ ap (λ (x : ℕ). length (varint x) + (length (varint (length pay.now)) + length pay.now)) eight
+    ∙ ap (λ (x : ℕ). length (varint key) + (length (varint x) + length pay.now)) pl
     ∙ omega (arith, a.size, b.size) in
     record {
-      front = whole ∙ sym (shape (bytes (key / 8) pay) (drop ((k + n) + v) bs));
+      front = whole ∙ sym (shape (bytes (key / 8) pay.now) (drop size bs));
       size = sym sum;
       small = (omega (arith, a.small, cap_nine), omega (arith, b.small, cap_nine));
-      within = omega (arith, length-drop k bs, a.within);
-      ahead = omega arith;
+      within = omega (arith, length-drop (k + n) bs, length-drop k bs, a.within, b.within);
       some = omega (arith, a.some);
     }

@@ -1,14 +1,16 @@
 -- EncryptedKeyset, by its two parts.
-use Rattle.std.specs.Prelude.{◌≡◌, ℕ, Bool, List, [], ◌++◌, refl}
+use Rattle.std.specs.Prelude.{◌≡◌, Bool, List, [], ◌++◌, refl}
 use Rattle.std.proofs.Common.{sym, ◌∙◌, arith}
 use Rattle.std.specs.Option.{option_map}
-use Rattle.encoding.specs.Wire.{Field, bytes, encode}
+use Rattle.encoding.specs.Wire.{Field, encode}
 use Rattle.encoding.specs.Members.{present, text}
 use Rattle.encoding.specs.Known.{encrypted_keyset_knows}
 use Rattle.encoding.specs.Lists.{list}
 use Rattle.encoding.specs.Meanings.{encrypted_keyset_fields, keyset_info_fields}
 use Rattle.encoding.specs.Views.{encrypted_keyset_view, fields_of_encrypted_keyset, keyset_info_view, fields_of_keyset_info}
 use Rattle.encoding.specs.Messages.{Sound, Took, Filled}
+use Rattle.encoding.specs.Scanning.{field_of, number_is}
+use Rattle.encoding.specs.declared.content.Content.{Content}
 use Rattle.encoding.specs.declared.records.EncryptedKeyset.{EncryptedKeyset}
 use Rattle.encoding.specs.Fields.{encode_same}
 use Rattle.encoding.specs.ListsLemmas.{list_length}
@@ -46,18 +48,18 @@ level2 = record { here = λ r. (part2 r).ordered; after = λ r. (from3 r).ordere
 level3 : Level encrypted_keyset_knows 3 piece3 (λ r. [])
 level3 = record { here = λ r. (part3 r).ordered; after = λ r. (none {K = encrypted_keyset_knows} {lo = 4} {hi = 15}).ordered }
 
-pub take2 : (b : Bool) (old new : EncryptedKeyset) (p : List ℕ) → tail2 new ≡ tail2 old →
-    Filled (λ b. text 2 (list b)) (λ _. Unit {0}) b old.encrypted_keyset new.encrypted_keyset (bytes 2 p) → Took fields_of_encrypted_keyset b old new (bytes 2 p)
+pub take2 : (b : Bool) (old new : EncryptedKeyset) (x : Content) → tail2 new ≡ tail2 old →
+    Filled (λ b. text 2 (list b)) (λ _. Unit {0}) b old.encrypted_keyset new.encrypted_keyset (field_of 2 x) → Took fields_of_encrypted_keyset b old new (field_of 2 x)
 unfolding encrypted_keyset_fields fields_of_encrypted_keyset
-take2 b old new p s0 h =
-    first level2 (λ b. text 2 (list b)) (λ _. Unit {0}) (λ r. r.encrypted_keyset) (λ _. tt) (λ r. refl) b old new (bytes 2 p) refl s0 h
+take2 b old new x s0 h =
+    first level2 (λ b. text 2 (list b)) (λ _. Unit {0}) (λ r. r.encrypted_keyset) (λ _. tt) (λ r. refl) b old new (field_of 2 x) (number_is 2 x) s0 h
 
-pub take3 : (b : Bool) (old new : EncryptedKeyset) (p : List ℕ) → piece2 new ≡ piece2 old →
-    Filled (present fields_of_keyset_info 3) (λ _. Unit {0}) b old.keyset_info new.keyset_info (bytes 3 p) → Took fields_of_encrypted_keyset b old new (bytes 3 p)
+pub take3 : (b : Bool) (old new : EncryptedKeyset) (x : Content) → piece2 new ≡ piece2 old →
+    Filled (present fields_of_keyset_info 3) (λ _. Unit {0}) b old.keyset_info new.keyset_info (field_of 3 x) → Took fields_of_encrypted_keyset b old new (field_of 3 x)
 unfolding encrypted_keyset_fields fields_of_encrypted_keyset fields_of_keyset_info
-take3 b old new p s0 h =
-    rest level2 b old new (bytes 3 p) (omega arith) s0 (
-    first level3 (present fields_of_keyset_info 3) (λ _. Unit {0}) (λ r. r.keyset_info) (λ _. tt) (λ r. present_view keyset_info_fields keyset_info_view 3 r.keyset_info) b old new (bytes 3 p) refl refl h)
+take3 b old new x s0 h =
+    rest level2 b old new (field_of 3 x) (omega (arith, number_is 3 x)) s0 (
+    first level3 (present fields_of_keyset_info 3) (λ _. Unit {0}) (λ r. r.keyset_info) (λ _. tt) (λ r. present_view keyset_info_fields keyset_info_view 3 r.keyset_info) b old new (field_of 3 x) (number_is 3 x) refl h)
 
 pub told : (r s : EncryptedKeyset) → fields_of_encrypted_keyset r ≡ fields_of_encrypted_keyset s → encrypted_keyset_view r ≡ encrypted_keyset_view s
 unfolding encrypted_keyset_fields fields_of_encrypted_keyset fields_of_keyset_info

@@ -1,14 +1,16 @@
 -- KeyInfo, by its four parts.
-use Rattle.std.specs.Prelude.{◌≡◌, ℕ, ◌^◌, ◌<◌, Bool, List, [], ◌++◌, refl}
+use Rattle.std.specs.Prelude.{◌≡◌, ◌^◌, ◌<◌, Bool, List, [], ◌++◌, refl}
 use Rattle.std.proofs.Common.{arith, SFits}
 use Rattle.std.specs.Int.{w32}
-use Rattle.encoding.specs.Wire.{Field, number, bytes, encode}
+use Rattle.encoding.specs.Wire.{Field, encode}
 use Rattle.encoding.specs.Members.{signed, text, unsigned}
 use Rattle.encoding.specs.Known.{key_info_knows}
 use Rattle.encoding.specs.Lists.{list}
 use Rattle.encoding.specs.Meanings.{key_info_fields}
 use Rattle.encoding.specs.Views.{key_info_view, fields_of_key_info, url_bytes}
 use Rattle.encoding.specs.Messages.{Sound, Took, Filled}
+use Rattle.encoding.specs.Scanning.{field_of, number_is}
+use Rattle.encoding.specs.declared.content.Content.{Content}
 use Rattle.encoding.specs.declared.records.KeyInfo.{KeyInfo}
 use Rattle.encoding.specs.declared.url.TypeUrl.{TypeUrl}
 use Rattle.encoding.specs.Fields.{encode_same}
@@ -75,35 +77,35 @@ level3 = record { here = λ r. (part3 r).ordered; after = λ r. (from4 r).ordere
 level4 : Level key_info_knows 4 piece4 (λ r. [])
 level4 = record { here = λ r. (part4 r).ordered; after = λ r. (none {K = key_info_knows} {lo = 5} {hi = 15}).ordered }
 
-pub take1 : (b : Bool) (old new : KeyInfo) (p : List ℕ) → tail1 new ≡ tail1 old →
-    Filled (λ (u : TypeUrl). text 1 (list u.text)) (λ _. Unit {0}) b old.type_url new.type_url (bytes 1 p) → Took fields_of_key_info b old new (bytes 1 p)
+pub take1 : (b : Bool) (old new : KeyInfo) (x : Content) → tail1 new ≡ tail1 old →
+    Filled (λ (u : TypeUrl). text 1 (list u.text)) (λ _. Unit {0}) b old.type_url new.type_url (field_of 1 x) → Took fields_of_key_info b old new (field_of 1 x)
 unfolding key_info_fields fields_of_key_info
-take1 b old new p s0 h =
-    first level1 (λ (u : TypeUrl). text 1 (list u.text)) (λ _. Unit {0}) (λ r. r.type_url) (λ _. tt) (λ r. refl) b old new (bytes 1 p) refl s0 h
+take1 b old new x s0 h =
+    first level1 (λ (u : TypeUrl). text 1 (list u.text)) (λ _. Unit {0}) (λ r. r.type_url) (λ _. tt) (λ r. refl) b old new (field_of 1 x) (number_is 1 x) s0 h
 
-pub take2 : (b : Bool) (old new : KeyInfo) (v : ℕ) → piece1 new ≡ piece1 old → tail2 new ≡ tail2 old →
-    Filled (signed 2) (λ z. SFits w32 z) b old.status new.status (number 2 v) → Took fields_of_key_info b old new (number 2 v)
+pub take2 : (b : Bool) (old new : KeyInfo) (x : Content) → piece1 new ≡ piece1 old → tail2 new ≡ tail2 old →
+    Filled (signed 2) (λ z. SFits w32 z) b old.status new.status (field_of 2 x) → Took fields_of_key_info b old new (field_of 2 x)
 unfolding key_info_fields fields_of_key_info
-take2 b old new v s0 s1 h =
-    rest level1 b old new (number 2 v) (omega arith) s0 (
-    first level2 (signed 2) (λ z. SFits w32 z) (λ r. r.status) (λ r. record { sfits = r.status_width }) (λ r. refl) b old new (number 2 v) refl s1 h)
+take2 b old new x s0 s1 h =
+    rest level1 b old new (field_of 2 x) (omega (arith, number_is 2 x)) s0 (
+    first level2 (signed 2) (λ z. SFits w32 z) (λ r. r.status) (λ r. record { sfits = r.status_width }) (λ r. refl) b old new (field_of 2 x) (number_is 2 x) s1 h)
 
-pub take3 : (b : Bool) (old new : KeyInfo) (v : ℕ) → piece1 new ≡ piece1 old → piece2 new ≡ piece2 old → tail3 new ≡ tail3 old →
-    Filled (unsigned 3) (λ z. z < 2 ^ 32) b old.key_id new.key_id (number 3 v) → Took fields_of_key_info b old new (number 3 v)
+pub take3 : (b : Bool) (old new : KeyInfo) (x : Content) → piece1 new ≡ piece1 old → piece2 new ≡ piece2 old → tail3 new ≡ tail3 old →
+    Filled (unsigned 3) (λ z. z < 2 ^ 32) b old.key_id new.key_id (field_of 3 x) → Took fields_of_key_info b old new (field_of 3 x)
 unfolding key_info_fields fields_of_key_info
-take3 b old new v s0 s1 s2 h =
-    rest level1 b old new (number 3 v) (omega arith) s0 (
-    rest level2 b old new (number 3 v) (omega arith) s1 (
-    first level3 (unsigned 3) (λ z. z < 2 ^ 32) (λ r. r.key_id) (λ r. r.id_width) (λ r. refl) b old new (number 3 v) refl s2 h))
+take3 b old new x s0 s1 s2 h =
+    rest level1 b old new (field_of 3 x) (omega (arith, number_is 3 x)) s0 (
+    rest level2 b old new (field_of 3 x) (omega (arith, number_is 3 x)) s1 (
+    first level3 (unsigned 3) (λ z. z < 2 ^ 32) (λ r. r.key_id) (λ r. r.id_width) (λ r. refl) b old new (field_of 3 x) (number_is 3 x) s2 h))
 
-pub take4 : (b : Bool) (old new : KeyInfo) (v : ℕ) → piece1 new ≡ piece1 old → piece2 new ≡ piece2 old → piece3 new ≡ piece3 old →
-    Filled (signed 4) (λ z. SFits w32 z) b old.output_prefix_type new.output_prefix_type (number 4 v) → Took fields_of_key_info b old new (number 4 v)
+pub take4 : (b : Bool) (old new : KeyInfo) (x : Content) → piece1 new ≡ piece1 old → piece2 new ≡ piece2 old → piece3 new ≡ piece3 old →
+    Filled (signed 4) (λ z. SFits w32 z) b old.output_prefix_type new.output_prefix_type (field_of 4 x) → Took fields_of_key_info b old new (field_of 4 x)
 unfolding key_info_fields fields_of_key_info
-take4 b old new v s0 s1 s2 h =
-    rest level1 b old new (number 4 v) (omega arith) s0 (
-    rest level2 b old new (number 4 v) (omega arith) s1 (
-    rest level3 b old new (number 4 v) (omega arith) s2 (
-    first level4 (signed 4) (λ z. SFits w32 z) (λ r. r.output_prefix_type) (λ r. record { sfits = r.prefix_width }) (λ r. refl) b old new (number 4 v) refl refl h)))
+take4 b old new x s0 s1 s2 h =
+    rest level1 b old new (field_of 4 x) (omega (arith, number_is 4 x)) s0 (
+    rest level2 b old new (field_of 4 x) (omega (arith, number_is 4 x)) s1 (
+    rest level3 b old new (field_of 4 x) (omega (arith, number_is 4 x)) s2 (
+    first level4 (signed 4) (λ z. SFits w32 z) (λ r. r.output_prefix_type) (λ r. record { sfits = r.prefix_width }) (λ r. refl) b old new (field_of 4 x) (number_is 4 x) refl h)))
 
 pub told : (r s : KeyInfo) → fields_of_key_info r ≡ fields_of_key_info s → key_info_view r ≡ key_info_view s
 unfolding key_info_fields fields_of_key_info

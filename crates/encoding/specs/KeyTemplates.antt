@@ -1,14 +1,16 @@
 -- KeyTemplate, by its three parts.
-use Rattle.std.specs.Prelude.{◌≡◌, ℕ, Bool, List, [], ◌++◌, refl}
+use Rattle.std.specs.Prelude.{◌≡◌, Bool, List, [], ◌++◌, refl}
 use Rattle.std.proofs.Common.{arith, SFits}
 use Rattle.std.specs.Int.{w32}
-use Rattle.encoding.specs.Wire.{Field, number, bytes, encode}
+use Rattle.encoding.specs.Wire.{Field, encode}
 use Rattle.encoding.specs.Members.{signed, text}
 use Rattle.encoding.specs.Known.{key_template_knows}
 use Rattle.encoding.specs.Lists.{list}
 use Rattle.encoding.specs.Meanings.{key_template_fields}
 use Rattle.encoding.specs.Views.{key_template_view, fields_of_key_template, url_bytes}
 use Rattle.encoding.specs.Messages.{Sound, Took, Filled}
+use Rattle.encoding.specs.Scanning.{field_of, number_is}
+use Rattle.encoding.specs.declared.content.Content.{Content}
 use Rattle.encoding.specs.declared.records.KeyTemplate.{KeyTemplate}
 use Rattle.encoding.specs.declared.url.TypeUrl.{TypeUrl}
 use Rattle.encoding.specs.Fields.{encode_same}
@@ -60,26 +62,26 @@ level2 = record { here = λ r. (part2 r).ordered; after = λ r. (from3 r).ordere
 level3 : Level key_template_knows 3 piece3 (λ r. [])
 level3 = record { here = λ r. (part3 r).ordered; after = λ r. (none {K = key_template_knows} {lo = 4} {hi = 15}).ordered }
 
-pub take1 : (b : Bool) (old new : KeyTemplate) (p : List ℕ) → tail1 new ≡ tail1 old →
-    Filled (λ (u : TypeUrl). text 1 (list u.text)) (λ _. Unit {0}) b old.type_url new.type_url (bytes 1 p) → Took fields_of_key_template b old new (bytes 1 p)
+pub take1 : (b : Bool) (old new : KeyTemplate) (x : Content) → tail1 new ≡ tail1 old →
+    Filled (λ (u : TypeUrl). text 1 (list u.text)) (λ _. Unit {0}) b old.type_url new.type_url (field_of 1 x) → Took fields_of_key_template b old new (field_of 1 x)
 unfolding key_template_fields fields_of_key_template
-take1 b old new p s0 h =
-    first level1 (λ (u : TypeUrl). text 1 (list u.text)) (λ _. Unit {0}) (λ r. r.type_url) (λ _. tt) (λ r. refl) b old new (bytes 1 p) refl s0 h
+take1 b old new x s0 h =
+    first level1 (λ (u : TypeUrl). text 1 (list u.text)) (λ _. Unit {0}) (λ r. r.type_url) (λ _. tt) (λ r. refl) b old new (field_of 1 x) (number_is 1 x) s0 h
 
-pub take2 : (b : Bool) (old new : KeyTemplate) (p : List ℕ) → piece1 new ≡ piece1 old → tail2 new ≡ tail2 old →
-    Filled (λ b. text 2 (list b)) (λ _. Unit {0}) b old.value new.value (bytes 2 p) → Took fields_of_key_template b old new (bytes 2 p)
+pub take2 : (b : Bool) (old new : KeyTemplate) (x : Content) → piece1 new ≡ piece1 old → tail2 new ≡ tail2 old →
+    Filled (λ b. text 2 (list b)) (λ _. Unit {0}) b old.value new.value (field_of 2 x) → Took fields_of_key_template b old new (field_of 2 x)
 unfolding key_template_fields fields_of_key_template
-take2 b old new p s0 s1 h =
-    rest level1 b old new (bytes 2 p) (omega arith) s0 (
-    first level2 (λ b. text 2 (list b)) (λ _. Unit {0}) (λ r. r.value) (λ _. tt) (λ r. refl) b old new (bytes 2 p) refl s1 h)
+take2 b old new x s0 s1 h =
+    rest level1 b old new (field_of 2 x) (omega (arith, number_is 2 x)) s0 (
+    first level2 (λ b. text 2 (list b)) (λ _. Unit {0}) (λ r. r.value) (λ _. tt) (λ r. refl) b old new (field_of 2 x) (number_is 2 x) s1 h)
 
-pub take3 : (b : Bool) (old new : KeyTemplate) (v : ℕ) → piece1 new ≡ piece1 old → piece2 new ≡ piece2 old →
-    Filled (signed 3) (λ z. SFits w32 z) b old.output_prefix_type new.output_prefix_type (number 3 v) → Took fields_of_key_template b old new (number 3 v)
+pub take3 : (b : Bool) (old new : KeyTemplate) (x : Content) → piece1 new ≡ piece1 old → piece2 new ≡ piece2 old →
+    Filled (signed 3) (λ z. SFits w32 z) b old.output_prefix_type new.output_prefix_type (field_of 3 x) → Took fields_of_key_template b old new (field_of 3 x)
 unfolding key_template_fields fields_of_key_template
-take3 b old new v s0 s1 h =
-    rest level1 b old new (number 3 v) (omega arith) s0 (
-    rest level2 b old new (number 3 v) (omega arith) s1 (
-    first level3 (signed 3) (λ z. SFits w32 z) (λ r. r.output_prefix_type) (λ r. record { sfits = r.prefix_width }) (λ r. refl) b old new (number 3 v) refl refl h))
+take3 b old new x s0 s1 h =
+    rest level1 b old new (field_of 3 x) (omega (arith, number_is 3 x)) s0 (
+    rest level2 b old new (field_of 3 x) (omega (arith, number_is 3 x)) s1 (
+    first level3 (signed 3) (λ z. SFits w32 z) (λ r. r.output_prefix_type) (λ r. record { sfits = r.prefix_width }) (λ r. refl) b old new (field_of 3 x) (number_is 3 x) refl h))
 
 pub told : (r s : KeyTemplate) → fields_of_key_template r ≡ fields_of_key_template s → key_template_view r ≡ key_template_view s
 unfolding key_template_fields fields_of_key_template

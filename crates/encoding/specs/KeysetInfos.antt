@@ -1,13 +1,15 @@
 -- KeysetInfo, by its two parts.
-use Rattle.std.specs.Prelude.{◌≡◌, ℕ, ◌^◌, ◌<◌, Bool, List, [], ◌++◌, map, refl}
+use Rattle.std.specs.Prelude.{◌≡◌, ◌^◌, ◌<◌, Bool, List, [], ◌++◌, map, refl}
 use Rattle.std.proofs.Common.{sym, ◌∙◌, arith}
-use Rattle.encoding.specs.Wire.{Field, number, bytes, encode}
+use Rattle.encoding.specs.Wire.{Field, encode}
 use Rattle.encoding.specs.Members.{each, unsigned}
 use Rattle.encoding.specs.Known.{keyset_info_knows}
 use Rattle.encoding.specs.Lists.{list}
 use Rattle.encoding.specs.Meanings.{keyset_info_fields, key_info_fields}
 use Rattle.encoding.specs.Views.{keyset_info_view, fields_of_keyset_info, key_info_view, fields_of_key_info}
 use Rattle.encoding.specs.Messages.{Sound, Took, Filled}
+use Rattle.encoding.specs.Scanning.{field_of, number_is}
+use Rattle.encoding.specs.declared.content.Content.{Content}
 use Rattle.encoding.specs.declared.records.KeysetInfo.{KeysetInfo}
 use Rattle.encoding.specs.declared.bounded.Bounded.{Bounded}
 use Rattle.encoding.specs.declared.records.KeyInfo.{KeyInfo}
@@ -48,18 +50,18 @@ level1 = record { here = λ r. (part1 r).ordered; after = λ r. (from2 r).ordere
 level2 : Level keyset_info_knows 2 piece2 (λ r. [])
 level2 = record { here = λ r. (part2 r).ordered; after = λ r. (none {K = keyset_info_knows} {lo = 3} {hi = 15}).ordered }
 
-pub take1 : (b : Bool) (old new : KeysetInfo) (v : ℕ) → tail1 new ≡ tail1 old →
-    Filled (unsigned 1) (λ z. z < 2 ^ 32) b old.primary_key_id new.primary_key_id (number 1 v) → Took fields_of_keyset_info b old new (number 1 v)
+pub take1 : (b : Bool) (old new : KeysetInfo) (x : Content) → tail1 new ≡ tail1 old →
+    Filled (unsigned 1) (λ z. z < 2 ^ 32) b old.primary_key_id new.primary_key_id (field_of 1 x) → Took fields_of_keyset_info b old new (field_of 1 x)
 unfolding keyset_info_fields fields_of_keyset_info
-take1 b old new v s0 h =
-    first level1 (unsigned 1) (λ z. z < 2 ^ 32) (λ r. r.primary_key_id) (λ r. r.id_width) (λ r. refl) b old new (number 1 v) refl s0 h
+take1 b old new x s0 h =
+    first level1 (unsigned 1) (λ z. z < 2 ^ 32) (λ r. r.primary_key_id) (λ r. r.id_width) (λ r. refl) b old new (field_of 1 x) (number_is 1 x) s0 h
 
-pub take2 : (b : Bool) (old new : KeysetInfo) (p : List ℕ) → piece1 new ≡ piece1 old →
-    Filled (λ (b : Bounded KeyInfo 16). each fields_of_key_info 2 (list b)) (λ _. Unit {0}) b old.key_info new.key_info (bytes 2 p) → Took fields_of_keyset_info b old new (bytes 2 p)
+pub take2 : (b : Bool) (old new : KeysetInfo) (x : Content) → piece1 new ≡ piece1 old →
+    Filled (λ (b : Bounded KeyInfo 16). each fields_of_key_info 2 (list b)) (λ _. Unit {0}) b old.key_info new.key_info (field_of 2 x) → Took fields_of_keyset_info b old new (field_of 2 x)
 unfolding keyset_info_fields fields_of_keyset_info fields_of_key_info
-take2 b old new p s0 h =
-    rest level1 b old new (bytes 2 p) (omega arith) s0 (
-    first level2 (λ (b : Bounded KeyInfo 16). each fields_of_key_info 2 (list b)) (λ _. Unit {0}) (λ r. r.key_info) (λ _. tt) (λ r. each_view key_info_fields key_info_view 2 (list r.key_info)) b old new (bytes 2 p) refl refl h)
+take2 b old new x s0 h =
+    rest level1 b old new (field_of 2 x) (omega (arith, number_is 2 x)) s0 (
+    first level2 (λ (b : Bounded KeyInfo 16). each fields_of_key_info 2 (list b)) (λ _. Unit {0}) (λ r. r.key_info) (λ _. tt) (λ r. each_view key_info_fields key_info_view 2 (list r.key_info)) b old new (field_of 2 x) (number_is 2 x) refl h)
 
 pub told : (r s : KeysetInfo) → fields_of_keyset_info r ≡ fields_of_keyset_info s → keyset_info_view r ≡ keyset_info_view s
 unfolding keyset_info_fields fields_of_keyset_info fields_of_key_info

@@ -1,11 +1,12 @@
 -- Laying one part after another over an output.
 use Rattle.std.specs.Prelude.{◌≡◌, ℕ, zero, suc, ◌+◌, ◌-◌, ◌^◌, ◌<◌, ◌≤◌, min, List, [], ◌∷◌, ◌++◌, length, take, drop, slice_set, refl}
-use Rattle.std.proofs.Common.{sym, ◌∙◌, ap, subst, inl, inr, arith}
+use Rattle.std.proofs.Common.{◌⊎◌, sym, ◌∙◌, ap, subst, inl, inr, arith}
 use borrow.Rule.Slice.PartMut.{put_mid}
-use Rattle.std.proofs.lemmas.List.{length-append}
+use Rattle.std.proofs.lemmas.List.{length-append, append-nil}
 use Rattle.std.proofs.lemmas.Bool.{cases_lt}
-use Rattle.encoding.specs.Laying.{laid, Laid}
+use Rattle.encoding.specs.Laying.{laid, onward, Laid}
 use Rattle.encoding.specs.Messages.{Wrote}
+use Rattle.encoding.specs.declared.output.Output.{Output}
 
 pub laid-past : (at : ℕ) (xs os : List ℕ) → length os ≤ at → laid at xs os ≡ os
 unfolding laid
@@ -61,37 +62,60 @@ laid_mid zero zero (x ∷ xs) (o ∷ os) l e = absurd (omega arith)
 laid_mid zero (suc n) (x ∷ xs) (o ∷ os) l e = ap (λ (t : List ℕ). x ∷ t) (laid_mid zero n xs os (omega arith) (omega arith))
 laid_mid (suc at) n xs (o ∷ os) l e = ap (λ (t : List ℕ). o ∷ t) (laid_mid at n xs os (omega arith) (omega arith))
 
-pub laid_part : (at n k : ℕ) (xs os ys : List ℕ) → at ≤ length os → n ≡ min (length xs) (length os - at) → k ≡ n → ys ≡ take (n - 0) xs → put_mid at k os ys ≡ laid at xs os
+pub laid_part : (at n k : ℕ) (xs os ys : List ℕ) → at ≤ length os → n ≡ min (length xs) (length os - at) → k ≡ n → ys ≡ take n xs → put_mid at k os ys ≡ laid at xs os
 laid_part at n k xs os ys l e m y =
-    let z : n - 0 ≡ n = omega arith in
-    ap (λ (j : ℕ). take at os ++ (ys ++ drop j (drop at os))) m ∙ ap (λ (t : List ℕ). take at os ++ (t ++ drop n (drop at os))) (y ∙ ap (λ (j : ℕ). take j xs) z) ∙ sym (laid_mid at n xs os l e)
+    ap (λ (j : ℕ). take at os ++ (ys ++ drop j (drop at os))) m ∙ ap (λ (t : List ℕ). take at os ++ (t ++ drop n (drop at os))) y ∙ sym (laid_mid at n xs os l e)
 
-pub then : (xs ys old mid new : List ℕ) (at a b : ℕ) → length old < 2 ^ 64 → Laid xs old at mid a → Laid ys mid a new b → Laid (xs ++ ys) old at new b
-then xs ys old mid new at a b room p q =
+pub onward-is : (at : ℕ) (xs : List ℕ) (n : ℕ) → at < 2 ^ 64 → n ≡ min (at + length xs) (2 ^ 64 - 1) → n ≡ onward at xs
+onward-is at [] n l e = omega arith
+onward-is at (x ∷ xs) n l e = e
+
+onward-more : (at : ℕ) (xs ys : List ℕ) → onward (onward at xs) ys ≡ onward at (xs ++ ys)
+onward-more at [] ys = refl
+onward-more at (x ∷ xs) [] = ap (λ (t : List ℕ). onward at (x ∷ t)) (sym (append-nil xs))
+onward-more at (x ∷ xs) (y ∷ ys) = omega (arith, length-append xs (y ∷ ys))
+
+-- a place past the end, or the place after xs
+past-or : (at : ℕ) (xs : List ℕ) (n : ℕ) → n < 2 ^ 64 → ((n ≤ onward at xs) × (n ≤ at + length xs)) ⊎ (onward at xs ≡ at + length xs)
+past-or at [] n l = inr (omega arith)
+past-or at (x ∷ xs) n l = elim (cases_lt (at + length (x ∷ xs)) (2 ^ 64)) [ inl m ↦ inr (omega arith) | inr m ↦ inl (omega arith, omega arith) ]
+
+pub then : (xs ys : List ℕ) (old mid new : Output) → length old.out.now < 2 ^ 64 → Laid xs old mid → Laid ys mid new → Laid (xs ++ ys) old new
+then xs ys old mid new room p q =
     record {
-      after = elim (cases_lt (at + length xs) (2 ^ 64)) [
-        | inl l ↦
-            let e : a ≡ at + length xs = omega (arith, p.ends) in
-            q.after ∙ ap (laid a ys) p.after ∙ laid_more at a xs ys old e
-        | inr g ↦
-            let e : a ≡ 2 ^ 64 - 1 = omega (arith, p.ends) in
-            let len : length mid ≡ length old = ap length p.after ∙ length-laid at xs old in
-            q.after ∙ laid-past a ys mid (omega arith) ∙ p.after ∙ sym (laid-past (at + length xs) ys (laid at xs old) (omega (arith, length-laid at xs old))) ∙ laid_more at (at + length xs) xs ys old refl
+      after = elim (past-or old.at xs (length old.out.now) room) [
+        | inr l ↦
+            let e : mid.at ≡ old.at + length xs = omega (arith, p.ends) in
+            q.after ∙ ap (laid mid.at ys) p.after ∙ laid_more old.at mid.at xs ys old.out.now e
+        | inl g ↦
+            let len : length mid.out.now ≡ length old.out.now = ap length p.after ∙ length-laid old.at xs old.out.now in
+            q.after ∙ laid-past mid.at ys mid.out.now (omega (arith, p.ends, g.0)) ∙ p.after ∙ sym (laid-past (old.at + length xs) ys (laid old.at xs old.out.now) (omega (arith, g.1, length-laid old.at xs old.out.now)))
+            ∙ laid_more old.at (old.at + length xs) xs ys old.out.now refl
       ];
-      ends = omega (arith, p.ends, q.ends, length-append xs ys);
+      ends = q.ends ∙ ap (λ (n : ℕ). onward n ys) p.ends ∙ onward-more old.at xs ys;
+      lent = q.lent ∙ p.lent;
     }
 
-pub laid_as : (xs ys old : List ℕ) (at : ℕ) (new : List ℕ) (b : ℕ) → xs ≡ ys → Laid xs old at new b → Laid ys old at new b
-laid_as xs ys old at new b e p = subst (λ (x : List ℕ). Laid x old at new b) e p
+pub laid_as : (xs ys : List ℕ) (old new : Output) → xs ≡ ys → Laid xs old new → Laid ys old new
+laid_as xs ys old new e p = subst (λ (x : List ℕ). Laid x old new) e p
 
-pub laid_empty : (xs old : List ℕ) (at : ℕ) → at < 2 ^ 64 → xs ≡ [] → Laid xs old at old at
-laid_empty xs old at l e = record { after = sym (laid_none at old) ∙ ap (λ (x : List ℕ). laid at x old) (sym e); ends = omega (arith, ap length e) }
+pub laid_empty : (xs : List ℕ) (old : Output) → xs ≡ [] → Laid xs old old
+laid_empty xs old e = record { after = sym (laid_none old.at old.out.now) ∙ ap (λ (x : List ℕ). laid old.at x old.out.now) (sym e); ends = ap (onward old.at) (sym e); lent = refl }
+
+-- an output keeps its length
+pub laid-room : (xs : List ℕ) (old new : Output) → length old.out.now < 2 ^ 64 → Laid xs old new → length new.out.now < 2 ^ 64
+laid-room xs old new l p = omega (arith, ap length p.after, length-laid old.at xs old.out.now)
 
 -- laid at the front, with room for it all
-pub wrote : (xs old new : List ℕ) (n : ℕ) → length xs ≤ length old → length old < 2 ^ 64 → Laid xs old 0 new n → Wrote xs old new n
-wrote xs old new n l m p =
-    let size : n ≡ length xs = omega (arith, p.ends) in
-    record { size = size; after = p.after ∙ laid-whole xs old l ∙ ap (λ (k : ℕ). xs ++ drop k old) (sym size) }
-
-pub laid-beyond : (xs old : List ℕ) (at end : ℕ) → length old ≤ at → end ≡ min (at + length xs) (2 ^ 64 - 1) → Laid xs old at old end
-laid-beyond xs old at end l e = record { after = sym (laid-past at xs old l); ends = e }
+pub wrote : (xs old new : List ℕ) (n : ℕ) (first last : Output) → first.out.now ≡ old → first.at ≡ 0 → length xs ≤ length old → length old < 2 ^ 64 → Laid xs first last → new ≡ last.out.now → n ≡ last.at
+    → Wrote xs old new n
+wrote xs old new n first last e z l m p f g =
+    let size : n ≡ length xs = g ∙ p.ends ∙ ap (λ (k : ℕ). onward k xs) z ∙ front xs (omega arith) in
+    record {
+      size = size;
+      after = f ∙ p.after ∙ ap (λ (k : ℕ). laid k xs first.out.now) z ∙ ap (laid 0 xs) e ∙ laid-whole xs old l ∙ ap (λ (k : ℕ). xs ++ drop k old) (sym size);
+    }
+  where
+    front : (xs : List ℕ) → length xs < 2 ^ 64 → onward 0 xs ≡ length xs
+    front [] l = refl
+    front (x ∷ xs) l = omega arith

@@ -1,5 +1,5 @@
 -- What a bounded list holds, and which bytes a type URL has.
-use Rattle.std.specs.Prelude.{ℕ, zero, suc, Bool, true, ◌&&◌, List, [], ◌∷◌, take, drop, Some, None, Option, nat_le}
+use Rattle.std.specs.Prelude.{ℕ, Bool, true, ◌&&◌, List, [], ◌∷◌, take, drop, Option, nat_le, slice_get}
 use Rattle.encoding.specs.declared.bounded.Bounded.{Bounded}
 
 abbrev pub list : {T : Type 0} {n : ℕ} → Bounded T n → List T
@@ -11,9 +11,7 @@ unused b = drop b.len b.items
 
 -- what stands at a place of a list, if it reaches so far
 abbrev pub item : {T : Type 0} → List T → ℕ → Option T
-item [] i = None
-item (x ∷ xs) zero = Some x
-item (x ∷ xs) (suc i) = item xs i
+item xs i = slice_get xs i
 
 -- the bytes of a type URL: each from 0x21 to 0x7E
 abbrev pub visible_byte : ℕ → Bool

@@ -43,6 +43,10 @@ pub record Place {R : Type 0} (fields : R → List Field) (input : List ℕ) (at
   pub whole : (r : R) × (encode (fields r) ≡ take at input)
   pub longest : (r : R) (n : ℕ) → n ≤ length input → encode (fields r) ≡ take n input → n ≤ at
 
+-- a fault of the reader, at some place
+abbrev pub Broken : Fault → Type 0
+Broken f = f ≡ placed f.place (fault BreaksEncoding Encoding)
+
 -- the reader's fault, and the writer's
 pub record Unread {R : Type 0} (fields : R → List Field) (input : List ℕ) (f : Fault) : Type 0 where
   pub fault_is : f ≡ placed f.place (fault BreaksEncoding Encoding)

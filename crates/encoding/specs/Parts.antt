@@ -1,12 +1,10 @@
 -- What the members of a record are written as, byte by byte.
-use Rattle.std.specs.Prelude.{◌≡◌, ℕ, zero, suc, ◌+◌, ◌-◌, ◌*◌, ◌^◌, ◌<◌, min, List, [], ◌∷◌, ◌++◌, map, length, take, ℤ, ◌≢◌, slice_index_or, refl}
-use Rattle.std.proofs.Common.{sym, ◌∙◌, ap, arith, of_z, to_z}
-use Rattle.std.specs.Int.Signed.{mag}
-use Rattle.std.specs.Int.{w32}
+use Rattle.std.specs.Prelude.{◌≡◌, ℕ, zero, suc, ◌+◌, ◌*◌, ◌^◌, ◌<◌, List, [], ◌∷◌, ◌++◌, map, length, take, ◌≢◌, slice_index_or, refl}
+use Rattle.std.proofs.Common.{sym, ◌∙◌, ap, arith}
 use Rattle.std.proofs.lemmas.List.{append_assoc, append-nil, length-append, map_more}
-use Rattle.std.proofs.lemmas.Int.{to_z-of_z}
 use Rattle.encoding.specs.Wire.{varint, Field, number, bytes, encode_field, encode}
-use Rattle.encoding.specs.Members.{unsigned, signed, text, each}
+use Rattle.encoding.specs.Members.{unsigned, text, each}
+use Rattle.encoding.specs.declared.output.Output.{Output}
 use Rattle.encoding.specs.Laying.{Laid}
 use Rattle.encoding.specs.Layings.{then, laid_as}
 use Rattle.encoding.specs.Varints.{base128_last, cap_nine}
@@ -47,8 +45,8 @@ text-none k [] h = refl
 text-none k (x ∷ xs) h = absurd (omega arith)
 
 -- one part after another
-pub both : (fs gs : List Field) (old mid new : List ℕ) (at a b : ℕ) → length old < 2 ^ 64 → Laid (encode fs) old at mid a → Laid (encode gs) mid a new b → Laid (encode (fs ++ gs)) old at new b
-both fs gs old mid new at a b room p q = laid_as _ _ old at new b (sym (encode_parts fs gs)) (then (encode fs) (encode gs) old mid new at a b room p q)
+pub both : (fs gs : List Field) (old mid new : Output) → length old.out.now < 2 ^ 64 → Laid (encode fs) old mid → Laid (encode gs) mid new → Laid (encode (fs ++ gs)) old new
+both fs gs old mid new room p q = laid_as _ _ old new (sym (encode_parts fs gs)) (then (encode fs) (encode gs) old mid new room p q)
 
 pub each_more : {R : Type 0} (fields : R → List Field) (k : ℕ) (xs : List R) (i : ℕ) (x : R) → i < length xs → x ≡ slice_index_or xs i x
     → encode (each fields k (take (i + 1) xs)) ≡ encode (each fields k (take i xs)) ++ encode_field (bytes k (encode (fields x)))
@@ -56,30 +54,8 @@ each_more {R} fields k xs i x l e =
     let one : R → Field = λ r. bytes k (encode (fields r)) in
     ap encode (map_more one xs i x l) ∙ encode_parts (map one (take i xs)) (one (slice_index_or xs i x) ∷ []) ∙ ap (λ (t : List ℕ). encode (map one (take i xs)) ++ t) (encode_one (one (slice_index_or xs i x)) ∙ ap (λ (r : R). encode_field (one r)) (sym e))
 
-pub alone : (fs : List Field) (old : List ℕ) (at : ℕ) (new : List ℕ) (b : ℕ) → Laid (encode fs) old at new b → Laid (encode (fs ++ [])) old at new b
-alone fs old at new b p = laid_as _ _ old at new b (ap encode (sym (append-nil fs))) p
-
-pub text_is : (k : ℕ) (u v old : List ℕ) (at : ℕ) (new : List ℕ) (b : ℕ) → u ≡ v → Laid (encode (text k u)) old at new b → Laid (encode (text k v)) old at new b
-text_is k u v old at new b e p = laid_as _ _ old at new b (ap (λ (t : List ℕ). encode (text k t)) e) p
-
--- the code hands a signed number on by its bits
-pub signed_is : (k : ℕ) (z : ℤ) (old : List ℕ) (at : ℕ) (new : List ℕ) (b : ℕ) → mag z < 2 ^ 31 → Laid (encode (signed k (to_z w32 (of_z w32 z)))) old at new b → Laid (encode (signed k z)) old at new b
-signed_is k z old at new b h p = laid_as _ _ old at new b (ap (λ (y : ℤ). encode (signed k y)) (to_z-of_z w32 z (record { sfits = h }))) p
-
--- lengths, part by part
-pub sizes : (fs gs : List Field) (a b : ℕ) → a ≡ length (encode fs) → b ≡ length (encode gs) → a + b ≡ length (encode (fs ++ gs))
-sizes fs gs a b p q = omega (arith, encode-length fs gs)
-
-pub size-alone : (fs : List Field) (a : ℕ) → a ≡ length (encode fs) → a ≡ length (encode (fs ++ []))
-size-alone fs a p = p ∙ ap (λ (x : List Field). length (encode x)) (sym (append-nil fs))
-
--- with sums that stop at the largest number there is
-pub sizes_most : (fs gs : List Field) (a b s : ℕ) → a ≡ length (encode fs) → b ≡ min (length (encode gs)) (2 ^ 64 - 1) → s ≡ min (a + b) (2 ^ 64 - 1) → length (encode (fs ++ (gs ++ []))) < 2 ^ 32
-    → s ≡ length (encode (fs ++ (gs ++ [])))
-sizes_most fs gs a b s p q e l = omega (arith, encode-length fs (gs ++ []), ap (λ (x : List Field). length (encode x)) (append-nil gs))
-
-pub signed-size : (k : ℕ) (z : ℤ) (a : ℕ) → mag z < 2 ^ 31 → a ≡ length (encode (signed k (to_z w32 (of_z w32 z)))) → a ≡ length (encode (signed k z))
-signed-size k z a h p = p ∙ ap (λ (y : ℤ). length (encode (signed k y))) (to_z-of_z w32 z (record { sfits = h }))
+pub alone : (fs : List Field) (old new : Output) → Laid (encode fs) old new → Laid (encode (fs ++ [])) old new
+alone fs old new p = laid_as _ _ old new (ap encode (sym (append-nil fs))) p
 
 key-size : (v : ℕ) → v < 128 → length (varint v) ≡ 1
 key-size v h = ap length (base128_last 9 v (omega (arith, cap_nine)) h)

@@ -1,6 +1,9 @@
 -- What the scanner answers: a varint, or a whole field, at the front of some bytes.
-use Rattle.std.specs.Prelude.{◌≡◌, ℕ, zero, suc, ◌+◌, ◌-◌, ◌*◌, ◌<◌, ◌≤◌, cond, List, [], ◌∷◌, ◌++◌, length, take, drop, Some, None, Option, ◌==◌, ◌≢◌, nat_lt}
-use Rattle.encoding.specs.Wire.{Field, number, bytes, encode_field, Small}
+use Rattle.std.specs.Prelude.{◌≡◌, ℕ, zero, suc, ◌+◌, ◌-◌, ◌*◌, ◌<◌, ◌≤◌, cond, List, [], ◌∷◌, ◌++◌, length, drop, Some, None, Option, ◌==◌, ◌≢◌, nat_lt, refl}
+use Rattle.std.specs.Borrow.{Bor}
+use Rattle.encoding.specs.Wire.{Field, number, bytes, number_of, encode_field, Small}
+use Rattle.encoding.specs.declared.content.Content.{Content}
+use Rattle.encoding.specs.declared.content.Content.TheVariants.{Number, Bytes}
 use Rattle.encoding.specs.declared.scan.Piece.{Piece}
 
 -- the varint at the front, its value and how many bytes it takes, if it is in shortest form and has at most k bytes before
@@ -21,18 +24,28 @@ unfoldable pub cap : ℕ → ℕ
 cap zero = 2
 cap (suc k) = 128 * cap k
 
--- the field that a piece at the front of bs stands for
-abbrev pub field_at : List ℕ → Piece → Field
-field_at bs p = cond p.delimited (bytes p.number (take (p.size - p.head) (drop p.head bs))) (number p.number p.value)
+-- the field with a number and a content
+abbrev pub field_of : ℕ → Content → Field
+field_of k (Number v) = number k v
+field_of k (Bytes b) = bytes k b.now
+
+abbrev pub IsNumber : Content → Type 0
+IsNumber x = (v : ℕ) × (x ≡ Number v)
+
+abbrev pub IsBytes : Content → Type 0
+IsBytes x = (b : Bor (List ℕ)) × (x ≡ Bytes b)
+
+pub number_is : (k : ℕ) (x : Content) → number_of (field_of k x) ≡ k
+number_is k (Number v) = refl
+number_is k (Bytes b) = refl
 
 -- no field stands at the front
 abbrev pub NoField : List ℕ → Type 0
 NoField bs = (f : Field) (rest : List ℕ) → Small f → bs ≢ encode_field f ++ rest
 
 pub record IsField (bs : List ℕ) (p : Piece) : Type 0 where
-  pub front : bs ≡ encode_field (field_at bs p) ++ drop p.size bs
-  pub size : p.size ≡ length (encode_field (field_at bs p))
-  pub small : Small (field_at bs p)
+  pub front : bs ≡ encode_field (field_of p.number p.content) ++ drop p.size bs
+  pub size : p.size ≡ length (encode_field (field_of p.number p.content))
+  pub small : Small (field_of p.number p.content)
   pub within : p.size ≤ length bs
-  pub ahead : p.head ≤ p.size
   pub some : 0 < p.size

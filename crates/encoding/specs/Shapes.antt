@@ -1,10 +1,13 @@
 -- A record as one part after another: what shows a record's contract from its parts', once for all records.
-use Rattle.std.specs.Prelude.{◌≡◌, ℕ, suc, ◌+◌, ◌<◌, ◌≤◌, Bool, true, false, List, [], ◌∷◌, ◌++◌}
+use Rattle.std.specs.Prelude.{◌≡◌, ℕ, suc, ◌+◌, ◌<◌, ◌≤◌, Bool, true, false, List, [], ◌∷◌, ◌++◌, refl}
 use Rattle.std.proofs.Common.{sym, ◌∙◌, ap, subst, arith}
 use Rattle.std.specs.List.{AllByRecursion}
 use Rattle.std.proofs.lemmas.List.{append_assoc, append-nil}
 use Rattle.encoding.specs.Wire.{Field, number, bytes, number_of, encode}
 use Rattle.encoding.specs.Messages.{Ordered, Sound, up_to, past, Took, Filled}
+use Rattle.encoding.specs.Scanning.{field_of}
+use Rattle.encoding.specs.declared.content.Content.{Content}
+use Rattle.encoding.specs.declared.content.Content.TheVariants.{Number, Bytes}
 use Rattle.encoding.specs.Parts.{encode-length}
 use Rattle.encoding.specs.Orders.{lower, within, up_to_append, up_to_past, up_to_above, covers, split_later, split_same}
 
@@ -101,8 +104,11 @@ unknown fields K most sound old new f unk same = (
 )
 
 -- at the number that the code tested for
-pub at-number : {R : Type 0} (fields : R → List Field) (b : Bool) (old new : R) (k n v : ℕ) → k ≡ n → Took fields b old new (number n v) → Took fields b old new (number k v)
-at-number fields b old new k n v e h = subst (λ (j : ℕ). Took fields b old new (number j v)) (sym e) h
+pub at-field : {R : Type 0} (fields : R → List Field) (b : Bool) (old new : R) (k n : ℕ) (x : Content) → k ≡ n → Took fields b old new (field_of n x) → Took fields b old new (field_of k x)
+at-field fields b old new k n x e h = subst (λ (j : ℕ). Took fields b old new (field_of j x)) (sym e) h
 
-pub at-bytes : {R : Type 0} (fields : R → List Field) (b : Bool) (old new : R) (k n : ℕ) (p : List ℕ) → k ≡ n → Took fields b old new (bytes n p) → Took fields b old new (bytes k p)
-at-bytes fields b old new k n p e h = subst (λ (j : ℕ). Took fields b old new (bytes j p)) (sym e) h
+-- with a number that the record knows for neither content
+pub stranger : {R : Type 0} (fields : R → List Field) (K : Field → Bool) (most : ℕ) → ((r : R) → Sound K 1 15 most (fields r)) → (old : R) (k : ℕ) (x : Content)
+    → ((v : ℕ) → K (number k v) ≡ false) → ((b : List ℕ) → K (bytes k b) ≡ false) → Took fields false old old (field_of k x)
+stranger fields K most sound old k (Number v) n m = unknown fields K most sound old old (number k v) (n v) refl
+stranger fields K most sound old k (Bytes b) n m = unknown fields K most sound old old (bytes k b.now) (m b.now) refl

@@ -11,10 +11,10 @@ use ciphers::fault::Fault;
 // Reading undoes writing: writes a record and reads it back. It is the same record again, and the one refusal is the
 // writer's, of an output that is too short.
 pub fn write_and_read<R: Message>(record: &R, out: &mut [u8]) -> Result<R, Fault>
-    ensures back { MatchResult result (λ v. R.Message.same v «record».now)
-        (λ f. Unwritten (encode (R.Message.fields «record».now)) out.old out.new f) }
+    ensures back { MatchResult result (λ v. R.same v «record».now)
+        (λ f. Unwritten (encode (R.fields «record».now)) out.old out.new f) }
     ensures written { MatchResult result
-        (λ v. Wrote (encode (R.Message.fields «record».now)) out.old out.new (length (encode (R.Message.fields «record».now))))
+        (λ v. Wrote (encode (R.fields «record».now)) out.old out.new (length (encode (R.fields «record».now))))
         (λ _. Unit {0}) }
 {
     let n = write(record, out)?;

@@ -4,12 +4,13 @@
 
 pub mod bounded;
 pub mod claims;
-mod fill;
+pub mod content;
 pub mod makings;
+mod member;
 pub mod message;
 pub mod messages;
 pub mod numbers;
-mod put;
+pub mod output;
 pub mod records;
 mod scan;
 mod sizes;

@@ -1,12 +1,12 @@
 // What all records have in common: one writer and one exact reader, over what a record says of its own fields.
-ghost use Rattle.std.specs.Prelude.{◌≡◌, ℕ, ◌^◌, ◌<◌, ◌≤◌, Bool, List, [], ◌∷◌, ◌++◌, length, MatchOption, MatchResult, nat_le};
-ghost use Rattle.ciphers.specs.Faults.{fault, placed};
-ghost use Rattle.ciphers.specs.declared.fault.Refusal.TheVariants.{BreaksEncoding};
-ghost use Rattle.ciphers.specs.declared.fault.Layer.TheVariants.{Encoding};
-ghost use Rattle.encoding.specs.Wire.{Field, number, bytes, encode};
+ghost use Rattle.std.specs.Prelude.{◌≡◌, ℕ, ◌^◌, ◌<◌, ◌≤◌, Bool, List, [], ◌∷◌, ◌++◌, length, MatchResult, IfErr, is_ok, nat_le};
+ghost use Rattle.encoding.specs.Wire.{Field, encode};
 ghost use Rattle.encoding.specs.Laying.{Laid};
-ghost use Rattle.encoding.specs.Messages.{Sound, Took, Unread, Unwritten, Wrote, last_of, Went, Stuck};
+ghost use Rattle.encoding.specs.Messages.{Broken, Sound, Took, Unread, Unwritten, Wrote, last_of, Went, Stuck};
+ghost use Rattle.encoding.specs.Scanning.{field_of};
 
+use crate::content::{Content, broken};
+use crate::output::Output;
 use crate::scan::{Piece, scan};
 use ciphers::fault::{Fault, Layer, Refusal};
 
@@ -18,62 +18,60 @@ pub trait Message: Copy {
     // The fields that it may have at all.
     ghost knows: { Field → Bool };
 
-    // The most bytes that it takes.
-    ghost largest: { ℕ };
-
     // That two records mean the same.
     ghost same: { Self → Self → Type 0 };
 
-    // The largest size, for buffers; `largest_len` ties it to the proved bound.
+    // The most bytes that it takes, for buffers too.
     const LARGEST: usize;
 
-    fn largest_len() -> usize
-        ensures { result ≡ largest };
+    ghost LARGEST: { ℕ };
 
     fn empty() -> Self
         ensures { fields result ≡ [] };
 
-    // One more field with a number in it, at its place; `false` if no record has it there.
-    fn add_number(&mut self, field: u64, value: u64) -> bool
-        ensures { Took fields result self.old self.new (number field value) };
-
-    // The same for a field with bytes in it.
-    fn add_bytes(&mut self, field: u64, payload: &[u8]) -> bool
-        ensures { Took fields result self.old self.new (bytes field payload.now) };
+    // One more field, at its place; a refusal if no record has it there.
+    fn add(&mut self, field: u64, content: Content<'_>) -> Result<(), Fault>
+        ensures took { Took fields (is_ok result) self.old self.new (field_of field content.entry) }
+        ensures fault { IfErr result Broken };
 
     // How many bytes the encoding takes. It is measured by laying it over no output, unless a record counts.
     fn size(&self) -> usize
         ensures { result ≡ length (encode (fields self.now)) }
     {
         let mut none = [0; 0];
-        self.put(&mut none, 0)
+        let mut output = Output {
+            out: &mut none,
+            at: 0,
+        };
+        self.put(&mut output);
+        output.at
     }
 
-    // Lays the encoding over the output from a place on, as far as it reaches, and answers where it would end.
-    fn put(&self, out: &mut [u8], at: usize) -> usize
-        ensures { Laid (encode (fields self.now)) out.old at out.new result };
+    // Lays the encoding over the output, as far as it reaches.
+    fn put(&self, out: &mut Output<'_>)
+        ensures { Laid (encode (fields self.now)) out.old out.new };
 
     // The fields are in order, with numbers from 1 to 15, known, and within the largest size.
-    ghost sound: { (r : Self) → Sound knows 1 15 largest (fields r) };
+    ghost sound: { (r : Self) → Sound knows 1 15 LARGEST (fields r) };
 
-    ghost modest: { largest < 2 ^ 32 };
+    ghost modest: { LARGEST < 2 ^ 32 };
 
     ghost told: { (r s : Self) → fields r ≡ fields s → same r s };
 }
 
 // How many bytes a record takes.
 pub fn encoded_len<R: Message>(record: &R) -> usize
-    ensures size { result ≡ length (encode (R.Message.fields «record».now)) }
-    ensures bound { result ≤ R.Message.largest }
+    ensures size { result ≡ length (encode (R.fields «record».now)) }
+    ensures bound { result ≤ R.LARGEST }
 {
     record.size()
 }
 
 // Whether a record fits in so many bytes. Where the largest one does, nothing is measured.
 fn fits<R: Message>(record: &R, room: usize) -> bool
-    ensures { result ≡ nat_le (length (encode (R.Message.fields «record».now))) room }
+    ensures { result ≡ nat_le (length (encode (R.fields «record».now))) room }
 {
-    if room >= R::largest_len() {
+    if room >= R::LARGEST {
         return true;
     }
     encoded_len(record) <= room
@@ -83,53 +81,41 @@ fn fits<R: Message>(record: &R, room: usize) -> bool
 // nothing.
 pub fn write<R: Message>(record: &R, out: &mut [u8]) -> Result<usize, Fault>
     ensures { MatchResult result
-        (λ n. Wrote (encode (R.Message.fields «record».now)) out.old out.new n)
-        (λ f. Unwritten (encode (R.Message.fields «record».now)) out.old out.new f) }
+        (λ n. Wrote (encode (R.fields «record».now)) out.old out.new n)
+        (λ f. Unwritten (encode (R.fields «record».now)) out.old out.new f) }
 {
     if !fits(record, out.len()) {
         return Err(Fault::new(Refusal::WrongSize, Layer::Encoding));
     }
-    Ok(record.put(out, 0))
+    let mut output = Output { out, at: 0 };
+    record.put(&mut output);
+    Ok(output.at)
 }
 
-// What the reader refuses with.
-fn broken(place: usize) -> Fault
-    ensures { result ≡ placed place (fault BreaksEncoding Encoding) }
+// One more field, from the front of `rest`; or a refusal where no record goes on so. `last` is the number of the field
+// before.
+fn step<'a, R: Message>(made: &mut R, last: u64, rest: &'a [u8]) -> Result<Piece<'a>, Fault>
+    requires { last ≡ last_of 0 (R.fields made.old) }
+    ensures { MatchResult result (λ p. Went R.fields made.old made.new rest.now p.size p.number)
+        (λ f. Broken f × Stuck R.fields made.old rest.now) }
 {
-    Fault::new(Refusal::BreaksEncoding, Layer::Encoding).at(place)
-}
-
-// One more field, from the front of `rest`; or nothing where no record goes on so. `last` is the number of the field before.
-fn step<R: Message>(made: &mut R, last: u64, rest: &[u8]) -> Option<Piece>
-    requires { last ≡ last_of 0 (R.Message.fields made.old) }
-    ensures { MatchOption result (Stuck R.Message.fields made.old rest.now)
-        (λ p. Went R.Message.fields made.old made.new rest.now p.size p.number) }
-{
-    let piece = scan(rest)?;
+    let piece = scan(rest).ok_or_else(broken)?;
     if piece.number < last {
-        return None;
+        return Err(broken());
     }
-    let head = piece.head;
-    let size = piece.size;
-    let taken = if piece.delimited {
-        made.add_bytes(piece.number, &rest[head..size])
-    } else {
-        made.add_number(piece.number, piece.value)
-    };
-    if taken { Some(piece) } else { None }
+    made.add(piece.number, piece.content)?;
+    Ok(piece)
 }
 
 // The record whose encoding the input is. Any other input is refused, at the first top-level field that breaks a rule.
 pub fn read<R: Message>(input: &[u8]) -> Result<R, Fault>
-    ensures { MatchResult result (λ v. encode (R.Message.fields v) ≡ input.now) (λ f. Unread R.Message.fields input.now f) }
+    ensures { MatchResult result (λ v. encode (R.fields v) ≡ input.now) (λ f. Unread R.fields input.now f) }
 {
     let mut made = R::empty();
     let mut last = 0;
     let mut at = 0;
     while at < input.len() {
-        let Some(piece) = step(&mut made, last, &input[at..]) else {
-            return Err(broken(at));
-        };
+        let piece = step(&mut made, last, &input[at..]).map_err(|fault| fault.at(at))?;
         last = piece.number;
         at += piece.size;
     }

@@ -2,50 +2,38 @@
 ghost use Rattle.std.specs.Option.{MatchOption};
 ghost use Rattle.encoding.specs.Scanning.{NoField, IsField};
 
+use crate::content::Content;
 use crate::varint::take_varint;
 
-// A field at the front of some bytes: its number, whether it is length-delimited, a number's value, and where its payload
-// begins and the whole of it ends.
+// A field at the front of some bytes: its number, what it holds, and how many bytes it takes.
 #[derive(Clone, Copy)]
-pub(crate) struct Piece {
+pub(crate) struct Piece<'a> {
     pub(crate) number: u64,
-    pub(crate) delimited: bool,
-    pub(crate) value: u64,
-    pub(crate) head: usize,
+    pub(crate) content: Content<'a>,
     pub(crate) size: usize,
 }
 
-pub(crate) fn scan(bytes: &[u8]) -> Option<Piece>
+pub(crate) fn scan(bytes: &[u8]) -> Option<Piece<'_>>
     ensures { MatchOption result (NoField bytes.now) (λ p. IsField bytes.now p) }
 {
-    let Some((key, k)) = take_varint(bytes, 9) else {
-        return None;
-    };
-    let rest = &bytes[k..];
-    let Some((value, n)) = take_varint(rest, 9) else {
-        return None;
-    };
+    let (key, k) = take_varint(bytes)?;
+    let (value, n) = take_varint(&bytes[k..])?;
     let number = key / 8;
-    if key % 8 == 0 {
-        return Some(Piece {
+    let head = k + n;
+    match key % 8 {
+        0 => Some(Piece {
             number,
-            delimited: false,
-            value,
-            head: k,
-            size: k + n,
-        });
+            content: Content::Number(value),
+            size: head,
+        }),
+        2 => {
+            let payload = bytes[head..].get(..value as usize)?;
+            Some(Piece {
+                number,
+                content: Content::Bytes(payload),
+                size: head + payload.len(),
+            })
+        }
+        _ => None,
     }
-    if key % 8 != 2 {
-        return None;
-    }
-    if value > (rest.len() - n) as u64 {
-        return None;
-    }
-    Some(Piece {
-        number,
-        delimited: true,
-        value,
-        head: k + n,
-        size: k + n + value as usize,
-    })
 }

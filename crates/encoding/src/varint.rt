@@ -1,30 +1,7 @@
 // Base 128 varints in their shortest form.
-ghost use Rattle.std.specs.Prelude.{◌≡◌, ◌+◌, ◌<◌, ◌≤◌, [], ◌∷◌, length};
-ghost use Rattle.encoding.specs.Wire.{base128, varint};
-ghost use Rattle.encoding.specs.Scanning.{unvarint, cap};
-ghost use Rattle.encoding.specs.Laying.{Laid};
-
-// One byte of output, if it reaches so far.
-pub(crate) fn put_byte(out: &mut [u8], at: usize, byte: u8) -> usize
-    ensures { Laid (byte ∷ []) out.old at out.new result }
-{
-    if at < out.len() {
-        out[at] = byte;
-    }
-    at.saturating_add(1)
-}
-
-// A number of at most `left` bytes before the last.
-fn put_digits(out: &mut [u8], at: usize, value: u64, left: u8) -> usize
-    requires small { value < cap left }
-    ensures { Laid (base128 left value) out.old at out.new result }
-{
-    if left == 0 || value < 128 {
-        return put_byte(out, at, value as u8);
-    }
-    let next = put_byte(out, at, (value % 128 + 128) as u8);
-    put_digits(out, next, value / 128, left - 1)
-}
+ghost use Rattle.std.specs.Prelude.{◌≡◌, ◌≤◌, length};
+ghost use Rattle.encoding.specs.Wire.{varint};
+ghost use Rattle.encoding.specs.Scanning.{unvarint};
 
 // How many bytes a number takes.
 pub(crate) fn varint_len(value: u64) -> usize
@@ -60,29 +37,12 @@ pub(crate) fn varint_len(value: u64) -> usize
     10
 }
 
-pub(crate) fn put_varint(out: &mut [u8], at: usize, value: u64) -> usize
-    ensures { Laid (varint value) out.old at out.new result }
-{
-    // Most are one byte, and most lengths one or two.
-    if value < 128 {
-        return put_byte(out, at, value as u8);
-    }
-    if value < 16384 {
-        let second = put_byte(out, at, (value % 128 + 128) as u8);
-        return put_byte(out, second, (value / 128) as u8);
-    }
-    put_digits(out, at, value, 9)
-}
-
 // The number at the front and how many bytes it takes, of at most `left` before the last.
-pub(crate) fn take_varint(bytes: &[u8], left: u8) -> Option<(u64, usize)>
+fn take_digits(bytes: &[u8], left: u8) -> Option<(u64, usize)>
     requires few { left ≤ 9 }
     ensures { result ≡ unvarint left bytes.now }
 {
-    if bytes.is_empty() {
-        return None;
-    }
-    let b = bytes[0];
+    let (&b, rest) = bytes.split_first()?;
     if b < 128 {
         if left == 0 && b >= 2 {
             return None;
@@ -92,14 +52,19 @@ pub(crate) fn take_varint(bytes: &[u8], left: u8) -> Option<(u64, usize)>
     if left == 0 {
         return None;
     }
-    match take_varint(&bytes[1..], left - 1) {
-        None => None,
-        Some((v, n)) => {
-            if v == 0 {
-                None
-            } else {
-                Some(((b - 128) as u64 + 128 * v, n + 1))
-            }
-        }
+    let (v, n) = take_digits(rest, left - 1)?;
+    if v == 0 {
+        return None;
+    }
+    Some(((b - 128) as u64 + 128 * v, n + 1))
+}
+
+pub(crate) fn take_varint(bytes: &[u8]) -> Option<(u64, usize)>
+    ensures { result ≡ unvarint 9 bytes.now }
+{
+    match bytes.first() {
+        // Most are one byte.
+        Some(&b) if b < 128 => Some((b as u64, 1)),
+        _ => take_digits(bytes, 9),
     }
 }

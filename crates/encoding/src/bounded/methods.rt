@@ -1,5 +1,5 @@
 // What a bounded list can do. Its meaning is `list`, and every contract speaks of that.
-ghost use Rattle.std.specs.Prelude.{◌≡◌, ◌+◌, ◌-◌, ◌<◌, [], ◌∷◌, ◌++◌, length, take, drop, replicate, MatchResult, ◌==◌, nat_lt, slice_set};
+ghost use Rattle.std.specs.Prelude.{◌≡◌, ◌+◌, ◌-◌, ◌<◌, [], ◌∷◌, ◌++◌, length, take, drop, replicate, MatchResult, ◌==◌, nat_lt, is_some, slice_set};
 ghost use Rattle.ciphers.specs.Faults.{fault};
 ghost use Rattle.ciphers.specs.declared.fault.Refusal.TheVariants.{BreaksEncoding};
 ghost use Rattle.ciphers.specs.declared.fault.Layer.TheVariants.{Encoding};
@@ -31,9 +31,7 @@ impl<T: Copy, const N: usize> Bounded<T, N> {
         }
         let mut items = [blank; N];
         let len = from.len();
-        for i in 0..len {
-            items[i] = from[i];
-        }
+        items[..len].copy_from_slice(from);
         Ok(Bounded { items, len })
     }
 
@@ -61,11 +59,7 @@ impl<T: Copy, const N: usize> Bounded<T, N> {
     pub fn get(&self, at: usize) -> Option<T>
         ensures { result ≡ item (list self.now) at }
     {
-        if at < self.len {
-            Some(self.items[at])
-        } else {
-            None
-        }
+        self.as_slice().get(at).copied()
     }
 
     // One more item at the end, or a refusal if the list is full.
@@ -83,33 +77,29 @@ impl<T: Copy, const N: usize> Bounded<T, N> {
         Ok(())
     }
 
-    // Another item at a place, or nothing if the list does not reach it.
-    pub fn set(&mut self, at: usize, x: T) -> bool
-        ensures test { result ≡ nat_lt at (length (list self.old)) }
+    // Another item at a place, for the one that stood there; or nothing if the list does not reach it.
+    pub fn set(&mut self, at: usize, x: T) -> Option<T>
+        ensures found { result ≡ item (list self.old) at }
+        ensures variant { is_some result ≡ nat_lt at (length (list self.old)) }
         ensures items { list self.new ≡ slice_set (list self.old) at x }
     {
-        if at >= self.len {
-            return false;
-        }
+        let found = self.get(at)?;
         self.items[at] = x;
-        true
+        Some(found)
     }
 
-    // The items after a place each move one to the front; `blank` fills the place that the last one leaves.
-    pub fn remove(&mut self, at: usize, blank: T) -> bool
-        ensures test { result ≡ nat_lt at (length (list self.old)) }
+    // Takes the item at a place out, if the list reaches it. Those after it each move one to the front, and `blank` fills the
+    // place that the last one leaves.
+    pub fn remove(&mut self, at: usize, blank: T) -> Option<T>
+        ensures found { result ≡ item (list self.old) at }
+        ensures variant { is_some result ≡ nat_lt at (length (list self.old)) }
         ensures items { list self.new ≡ take at (list self.old) ++ drop (at + 1) (list self.old) }
     {
-        if at >= self.len {
-            return false;
-        }
-        let mut items = self.items;
+        let found = self.get(at)?;
         let last = self.len - 1;
-        for i in at..last {
-            items[i] = items[i + 1];
-        }
-        items[last] = blank;
-        *self = Bounded { items, len: last };
-        true
+        self.items.copy_within(at + 1..self.len, at);
+        self.items[last] = blank;
+        self.len = last;
+        Some(found)
     }
 }

@@ -1,41 +1,41 @@
-use Rattle.std.proofs.Common.{sym, refl, ◌∙◌, subst, arith, rules}
-use Rattle.std.proofs.lemmas.Bool.{cond-true, cond-false}
-use Rattle.encoding.specs.Messages.{Ordered, Went}
+use Rattle.std.proofs.Common.{◌≡◌, Some, None, Option, MatchOption, Ok, Result, subst, arith, rules}
+use Rattle.ciphers.specs.declared.fault.Fault.{Fault}
+use Rattle.std.proofs.lemmas.Result.{err_from_is_err_and}
+use Rattle.encoding.specs.Messages.{Ordered}
 use Rattle.encoding.specs.Orders.{lower}
-use Rattle.encoding.proofs.Places.{early, refused, taken, piece_number}
+use Rattle.encoding.specs.Scanning.{IsField, number_is}
+use Rattle.encoding.proofs.Places.{early, refused, taken}
 use Rattle.encoding.proofs.message.step.Given as given
 use Rattle.encoding.proofs.message.step.Goals as goal
-use Rattle.encoding.proofs.message.step.Goals.{then-piece, else-piece}
-
-pub slice_bounds-add_bytes-count : goal.slice_bounds-add_bytes-count
-slice_bounds-add_bytes-count g c = c.in_ok-piece.ensures.ahead
-
-pub slice_bounds-add_bytes-start : goal.slice_bounds-add_bytes-start
-slice_bounds-add_bytes-start g c = let i = c.in_ok-piece.ensures in search rules
-
-pub returns-then-piece-last : goal.returns-then-piece-last
-returns-then-piece-last g c =
-    early g.R.Message.fields g.R.Message.knows (λ r. lower _ 1 0 15 _ (omega arith) (g.met.R.Message.sound r).ordered) c.args.made.now c.args.rest.now c.in_ok-piece.piece
-    c.in_ok-piece.ensures (omega (arith, piece_number c.args.rest.now c.in_ok-piece.piece, c.if-piece-last.true, c.requires))
+use Rattle.encoding.proofs.message.step.Goals.{In_ok-piece}
 
 -- the record's fields are in order, from any number up to the first
 ordered : (g : given.Over) (r : g.row.R.Denot) → Ordered g.R.Message.knows 0 15 (g.R.Message.fields r)
 ordered g r = lower g.R.Message.knows 1 0 15 (g.R.Message.fields r) (omega arith) (g.met.R.Message.sound r).ordered
 
-pub returns-then-taken : goal.returns-then-taken
-returns-then-taken g c = elim c.if-piece.branch [
-  | then-piece w ↦ subst (λ (x : g.row.R.Denot). Went g.R.Message.fields c.args.made.now x c.args.rest.now c.in_ok-piece.piece.size c.in_ok-piece.piece.number) (sym w.made-is)
-      (taken g.R.Message.fields g.R.Message.knows (ordered g) c.args.made.now w.add_bytes-taken.new.self c.args.rest.now c.in_ok-piece.piece _ w.add_bytes-taken.result
-      c.in_ok-piece.ensures (cond-true _ _ _ w.if-piece.true) refl (omega (arith, c.if-piece-last.false, c.requires)) (sym w.taken-is ∙ c.if-taken.true) w.add_bytes-taken.ensures)
-  | else-piece w ↦ subst (λ (x : g.row.R.Denot). Went g.R.Message.fields c.args.made.now x c.args.rest.now c.in_ok-piece.piece.size c.in_ok-piece.piece.number) (sym w.made-is)
-      (taken g.R.Message.fields g.R.Message.knows (ordered g) c.args.made.now w.add_number-taken.new.self c.args.rest.now c.in_ok-piece.piece _ w.add_number-taken.result
-      c.in_ok-piece.ensures (cond-false _ _ _ w.if-piece.false) refl (omega (arith, c.if-piece-last.false, c.requires)) (sym w.taken-is ∙ c.if-taken.true) w.add_number-taken.ensures)
-]
+some : {T : Type 0} (P : Type 0) (Q : T → Type 0) (o : Option T) (x : T) → MatchOption o ⊥ (λ y. ◌≡◌ {A = Result T Fault} (Ok x) (Ok y)) → MatchOption o P Q → Q x
+some P Q None x e h = absurd e
+some P Q (Some y) x e h = let z : y ≡ x = cc in subst Q z h
 
-pub returns-else-taken : goal.returns-else-taken
-returns-else-taken g c = elim c.if-piece.branch [
-  | then-piece w ↦ refused g.R.Message.fields g.R.Message.knows (ordered g) c.args.made.now w.add_bytes-taken.new.self c.args.rest.now c.in_ok-piece.piece _ w.add_bytes-taken.result
-      c.in_ok-piece.ensures (cond-true _ _ _ w.if-piece.true) (omega (arith, c.if-piece-last.false, c.requires)) (sym w.taken-is ∙ c.if-taken.false) w.add_bytes-taken.ensures
-  | else-piece w ↦ refused g.R.Message.fields g.R.Message.knows (ordered g) c.args.made.now w.add_number-taken.new.self c.args.rest.now c.in_ok-piece.piece _ w.add_number-taken.result
-      c.in_ok-piece.ensures (cond-false _ _ _ w.if-piece.false) (omega (arith, c.if-piece-last.false, c.requires)) (sym w.taken-is ∙ c.if-taken.false) w.add_number-taken.ensures
-]
+found : (g : given.Over) (c : In_ok-piece g) → IsField c.args.rest.now c.in_ok-piece.piece
+found g c = some _ _ c.scan.result c.in_ok-piece.piece c.in_ok-piece.ensures.cases c.scan.ensures
+
+pub returns-then-piece-last : goal.returns-then-piece-last
+returns-then-piece-last g c = (
+  search rules,
+  early g.R.Message.fields g.R.Message.knows (ordered g) c.args.made.now c.args.rest.now c.in_ok-piece.piece (found g (goal.at.returns-then-piece-last g c).In_ok-piece)
+      (omega (arith, number_is c.in_ok-piece.piece.number c.in_ok-piece.piece.content, c.if-piece-last.true, c.requires)),
+)
+
+pub returns-in_err-add : goal.returns-in_err-add
+returns-in_err-add g c =
+    let p = err_from_is_err_and c.from_residual-in_err-add.result c.from_residual-in_err-add.ensures.1 in
+    rw (p.1, p.2) (
+      c.in_err-add.ensures.fault,
+      refused g.R.Message.fields g.R.Message.knows (ordered g) c.args.made.now c.add.new.self c.args.rest.now c.in_ok-piece.piece (found g (goal.at.returns-in_err-add g c).In_ok-piece)
+          (omega (arith, c.if-piece-last.false, c.requires)) c.in_err-add.ensures.took,
+    )
+
+pub returns : goal.returns
+returns g c =
+    taken g.R.Message.fields g.R.Message.knows (ordered g) c.args.made.now c.add.new.self c.args.rest.now c.in_ok-piece.piece (found g (goal.at.returns g c).In_ok-piece) (omega (arith, c.if-piece-last.false, c.requires)) c.in_ok-add.ensures.took

@@ -1,34 +1,30 @@
-use Rattle.std.proofs.Common.{◌+◌, ◌<◌, ◌≤◌, length, get_or, take, sym, refl, ◌∙◌, arith}
-use Rattle.std.proofs.lemmas.List.{length-set, length-take-le, take_at}
-use Rattle.std.proofs.lemmas.Bool.{lt-ltb, le-ltb}
+use Rattle.std.proofs.Common.{◌-◌, ◌<◌, sym, ap, ◌∙◌, take, slice_set, arith, rules}
+use Rattle.std.proofs.lemmas.Bool.{lt-ltb}
 use Rattle.encoding.specs.Lists.{list}
-use Rattle.encoding.specs.ListsLemmas.{without-past, list_length, moved_more, kept_more, removed_all}
+use Rattle.encoding.specs.ListsLemmas.{item_within, item_past, list_length, without-past, removed}
+use Rattle.encoding.proofs.bounded.Bounded.remove.Given as given
 use Rattle.encoding.proofs.bounded.Bounded.remove.Goals as goal
+use Rattle.encoding.proofs.bounded.Bounded.remove.Goals.{In_ok-found}
 
-pub returns-then-at-self : goal.returns-then-at-self
-returns-then-at-self g c =
-    let l : length (list c.args.self.now) ≤ c.args.at = omega (arith, list_length c.args.self.now) in
-    record { test = sym (le-ltb _ _ l); items = without-past _ _ l }
+pub returns-in_err-found-clause-items : goal.returns-in_err-found-clause-items
+returns-in_err-found-clause-items g c = without-past _ _ (item_past (list c.args.self.now) c.args.at c.in_err-found.ensures)
 
-pub loop-i-init : goal.loop-i-init
-loop-i-init g c =
+within : (g : given.Over) (c : In_ok-found g) → c.args.at < c.args.self.now.len
+within g c = item_within c.args.self.now c.args.at c.in_ok-found.found c.in_ok-found.ensures
+
+pub overflow_add-at : goal.overflow_add-at
+overflow_add-at g c = let l = within g (goal.at.overflow_add-at g c).In_ok-found in let f = c.args.self.now.fits in let n = g.N.fits in search rules
+
+pub copy_within-requires-clause-start_le_end : goal.copy_within-requires-clause-start_le_end
+copy_within-requires-clause-start_le_end g c = omega (arith, within g (goal.at.copy_within-requires-clause-start_le_end g c).In_ok-found)
+
+pub copy_within-requires-clause-dest_in_bounds : goal.copy_within-requires-clause-dest_in_bounds
+copy_within-requires-clause-dest_in_bounds g c = omega (arith, within g (goal.at.copy_within-requires-clause-dest_in_bounds g c).In_ok-found, c.args.self.now.fits, c.args.self.now.full)
+
+pub returns-clause-variant : goal.returns-clause-variant
+returns-clause-variant g c = sym (lt-ltb _ _ (omega (arith, within g (goal.at.returns-clause-variant g c).In_ok-found, list_length c.args.self.now)))
+
+pub returns-clause-items : goal.returns-clause-items
+returns-clause-items g c =
     let b = c.args.self.now in
-    (b.full, sym (take_at (take c.args.at b.items) _ c.args.at (length-take-le c.args.at b.items (omega (arith, b.fits, b.full)))), refl)
-
-pub loop-i-preserved : goal.loop-i-preserved
-loop-i-preserved g c =
-    let b = c.args.self.now in
-    let n = c.loop-i.invariant.0 in (
-      length-set _ _ _ ∙ n,
-      moved_more c.loop-i.items b.items c.args.at c.loop-i.i c.index-items-i.result c.loop-i.auto.i (omega (arith, b.fits, b.full)) (omega (arith, b.fits, b.full)) c.loop-i.invariant.1 c.loop-i.invariant.2,
-      kept_more c.loop-i.items b.items c.loop-i.i (get_or c.loop-i.items (c.loop-i.i + 1) c.index-items-i.result) c.loop-i.invariant.2,
-    )
-
-pub returns : goal.returns
-returns g c =
-    let b = c.args.self.now in
-    let l : c.args.at < length (list b) = omega (arith, list_length b) in
-    record {
-      test = sym (lt-ltb _ _ l);
-      items = removed_all c.loop-i.items b.items c.args.at b.len c.loop-i.i c.args.blank (omega (arith, c.loop-i.auto.i-end (omega arith))) (omega arith) (omega (arith, b.fits, b.full)) c.loop-i.invariant.1;
-    }
+    ap (λ xs. take (b.len - 1) (slice_set xs (b.len - 1) c.args.blank)) c.copy_within.ensures.after ∙ removed b.items c.args.at b.len c.args.blank (within g (goal.at.returns-clause-items g c).In_ok-found) (omega (arith, b.fits, b.full))

@@ -1,9 +1,0 @@
-use Rattle.std.proofs.Common.{refl}
-use Rattle.encoding.specs.Meanings.{key_template_fields}
-use Rattle.encoding.specs.Views.{fields_of_key_template}
-use Rattle.encoding.specs.Sorts.{text_empty}
-use Rattle.encoding.proofs.messages.KeyTemplateMessage.empty.Goals as goal
-
-pub returns : goal.returns
-unfolding key_template_fields fields_of_key_template
-returns c = text_empty 1 _ _ c.empty.ensures (text_empty 2 _ _ c.empty-2.ensures.items refl)

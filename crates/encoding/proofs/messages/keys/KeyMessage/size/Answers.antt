@@ -1,0 +1,30 @@
+use Rattle.std.proofs.Common.{List, length, ap, arith}
+use Rattle.std.proofs.lemmas.List.{append-nil}
+use Rattle.encoding.specs.Wire.{Field, encode}
+use Rattle.encoding.specs.Meanings.{key_fields, key_data_fields}
+use Rattle.encoding.specs.Views.{fields_of_key, fields_of_key_data, key_data_view}
+use Rattle.encoding.specs.Sorts.{present_view}
+use Rattle.encoding.specs.Parts.{encode-length}
+use Rattle.encoding.specs.Keys.{piece1, piece2, piece3, piece4, tail1, tail2, tail3, sound}
+use Rattle.encoding.proofs.messages.keys.KeyMessage.size.Goals as goal
+
+pub returns : goal.returns
+unfolding key_fields fields_of_key fields_of_key_data
+returns c =
+    let r = c.args.self.now in
+    omega (
+      arith,
+      c.saturating_add.ensures,
+      c.saturating_add-2.ensures,
+      c.saturating_add-3.ensures,
+      c.size.ensures 1 (omega arith),
+      ap (λ (fs : List Field). length (encode fs)) (present_view key_data_fields key_data_view 1 r.key_data),
+      c.size-2.ensures 2 (omega arith),
+      c.size-3.ensures 3 (omega arith),
+      c.size-4.ensures 4 (omega arith),
+      encode-length (piece1 r) (tail1 r),
+      encode-length (piece2 r) (tail2 r),
+      encode-length (piece3 r) (tail3 r),
+      ap (λ (fs : List Field). length (encode fs)) (append-nil (piece4 r)),
+      (sound r).size,
+    )

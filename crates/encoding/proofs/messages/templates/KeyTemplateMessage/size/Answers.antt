@@ -1,0 +1,25 @@
+use Rattle.std.proofs.Common.{List, length, ap, arith}
+use Rattle.std.proofs.lemmas.List.{append-nil}
+use Rattle.encoding.specs.Wire.{Field, encode}
+use Rattle.encoding.specs.Meanings.{key_template_fields}
+use Rattle.encoding.specs.Views.{fields_of_key_template}
+use Rattle.encoding.specs.Parts.{encode-length}
+use Rattle.encoding.specs.KeyTemplates.{piece1, piece2, piece3, tail1, tail2, sound}
+use Rattle.encoding.proofs.messages.templates.KeyTemplateMessage.size.Goals as goal
+
+pub returns : goal.returns
+unfolding key_template_fields fields_of_key_template
+returns c =
+    let r = c.args.self.now in
+    omega (
+      arith,
+      c.saturating_add.ensures,
+      c.saturating_add-2.ensures,
+      c.size.ensures 1 (omega arith),
+      c.size-2.ensures 2 (omega arith),
+      c.size-3.ensures 3 (omega arith),
+      encode-length (piece1 r) (tail1 r),
+      encode-length (piece2 r) (tail2 r),
+      ap (λ (fs : List Field). length (encode fs)) (append-nil (piece3 r)),
+      (sound r).size,
+    )
