@@ -5,8 +5,8 @@ use crate::message::Message;
 
 #[derive(Drop)]
 pub struct Output<'a> {
-    pub(crate) out: &'a mut [u8],
-    pub(crate) at: usize,
+    pub out: &'a mut [u8],
+    pub at: usize,
 }
 
 impl Output<'_> {

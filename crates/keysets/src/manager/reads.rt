@@ -12,8 +12,8 @@ ghost use Rattle.keysets.specs.Reading.{id_at, status_at, prefix_at};
 use crate::manager::Manager;
 use crate::validation::validate;
 use ciphers::fault::Fault;
-use encoding::message::write;
-use encoding::records::{Key, KeyId};
+use encoding::message::{Message, write};
+use encoding::records::{Key, KeyId, Keyset};
 
 impl Manager {
     pub fn primary_key_id(&self) -> KeyId
@@ -47,7 +47,7 @@ impl Manager {
     pub fn has_encoding(&self, bytes: &[u8]) -> bool
         ensures { result ≡ bytes_eq (encode (keyset_fields self.now)) bytes.now }
     {
-        let mut out = [0u8; 3878];
+        let mut out = [0u8; Keyset::LARGEST];
         match write(&self.ks, &mut out) {
             Ok(len) => &out[..len] == bytes,
             Err(_) => false,
