@@ -11,10 +11,9 @@ use encoding::records::{Key, KeyData, Keyset};
 fn check_key_data(key_data: &KeyData) -> Result<(), Fault>
     ensures { result ≡ checked_data (key_data_view key_data.now) }
 {
-    match KeyMaterialType::try_from(key_data.key_material_type) {
-        Ok(_) => Ok(()),
-        Err(_) => Err(Fault::new(Refusal::UnknownMaterial, Layer::Handle)),
-    }
+    let unknown = Fault::new(Refusal::UnknownMaterial, Layer::Handle);
+    KeyMaterialType::try_from(key_data.key_material_type).map_err(|_| unknown)?;
+    Ok(())
 }
 
 // A key without data is Destroyed.

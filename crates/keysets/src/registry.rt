@@ -4,7 +4,8 @@ pub mod chip_public;
 pub mod cmac128;
 pub mod key_manager;
 
-// A place of a bank: a manager, and whether it is registered.
+// A place of a bank: a manager, and whether it is registered. The manager stands there either way, so this is no `Option`;
+// an enum of the two states would have to move it from one to the other behind a `&mut`.
 #[derive(Drop)]
 pub struct Place<M> {
     manager: M,

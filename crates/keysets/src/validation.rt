@@ -9,7 +9,7 @@ use ciphers::fault::{Fault, Layer, Refusal};
 use encoding::numbers::{KeyMaterialType, KeyStatusType, OutputPrefixType};
 use encoding::records::{Key, KeyId, Keyset};
 
-// What the keys gone through had.
+// What the keys gone through had: three facts, each of which stands alone.
 #[derive(Clone, Copy)]
 struct Seen {
     some_enabled: bool,
@@ -77,13 +77,11 @@ fn is_enabled(key: &Key) -> bool
 fn is_not_public(key: &Key) -> bool
     ensures { result ≡ not_public_key (key_view key.now) }
 {
-    if !is_enabled(key) {
-        return false;
-    }
-    let Some(data) = key.key_data else {
-        return false;
-    };
-    KeyMaterialType::try_from(data.key_material_type) != Ok(KeyMaterialType::AsymmetricPublic)
+    is_enabled(key)
+        && key.key_data.is_some_and(|data| {
+            KeyMaterialType::try_from(data.key_material_type)
+                != Ok(KeyMaterialType::AsymmetricPublic)
+        })
 }
 
 impl Seen {

@@ -72,7 +72,7 @@ impl Manager {
         }
     }
 
-    // A new key by a template, and perhaps the primary one. A keyset of 16 keys refuses before anything else. Ids that differ
+    // A new key by a template, and perhaps the primary one: tink-core's `add` has the same parameter. A keyset of 16 keys refuses before anything else. Ids that differ
     // keep differing, and the new key has a primitive: `primitive_at` at its position does not refuse.
     pub fn add<M: KeyManager, D: Draws>(
         &mut self,

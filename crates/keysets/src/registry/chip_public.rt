@@ -9,7 +9,7 @@ use encoding::bounded::Bounded;
 use encoding::numbers::KeyMaterialType;
 use encoding::records::Value;
 
-// The primitive: one half of a chip's key, and which.
+// The primitive: one half of a chip's key, and which. Neither field says anything of the other.
 #[derive(Clone, Copy)]
 pub struct Chip {
     pub public: bool,
