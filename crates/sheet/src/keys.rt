@@ -21,6 +21,7 @@ struct Row {
     is_primary: bool,
 }
 
+// The names are those of a derived `Debug`, but no contract says what that prints.
 fn status_text(status: i32) -> &'static str
     ensures { result.now ≡ status_text (status_of status) }
 {
