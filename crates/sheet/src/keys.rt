@@ -1,9 +1,10 @@
 // A keyset as lines of text, key by key: ids, statuses and prefix types, and which id is primary. No key bytes.
 ghost use Rattle.std.specs.Prelude.{◌≡◌, Some, IfOk, string_bytes};
+ghost use Rattle.std.specs.Option.{option_map};
 ghost use Rattle.encoding.specs.Lists.{item};
 ghost use Rattle.keysets.specs.Kinds.{status_of, prefix_of};
 ghost use Rattle.keysets.specs.Reading.{managed};
-ghost use Rattle.sheet.specs.Rows.{status_text, prefix_text, listed, row_of, sheet_of};
+ghost use Rattle.sheet.specs.Rows.{status_text, prefix_text, row_of, sheet_of};
 
 use encoding::numbers::{KeyStatusType, OutputPrefixType};
 use encoding::records::KeyId;
@@ -61,7 +62,7 @@ impl fmt::Display for Row {
 
 // The row of the key at a position, if there is one.
 fn row_at(manager: &Manager, at: usize) -> Option<Row>
-    ensures { listed result ≡ row_of (managed manager.now).primary_key_id (item (managed manager.now).keys at) }
+    ensures { result ≡ option_map (row_of (managed manager.now).primary_key_id) (item (managed manager.now).keys at) }
 {
     let (Some(id), Some(status), Some(prefix)) = (
         manager.key_id_at(at),
