@@ -85,6 +85,7 @@ pub fn keys(heap: Global, manager: &Manager) -> Result<String, AllocError>
     ensures { IfOk result (λ text. string_bytes text ≡ sheet_of (managed manager.now)) }
 {
     let mut text = String::new(heap);
+    // By position, since a manager hands out no keys.
     for at in 0..manager.key_count() {
         if let Some(row) = row_at(manager, at) {
             write!(text, "{row}")?;
