@@ -18,7 +18,8 @@ pub struct Cmac {
     ghost subkey: { k1 ≡ subkey1 (cipher (aes_key aes)) },
 }
 
-// A tag in the making: X, and the last n bytes, which are held back until it is known whether more come.
+// A tag in the making: X, and the last n bytes, which are held back until it is known whether more come. They stand in a block
+// with its length beside it, since nothing here has a heap.
 #[derive(Drop)]
 pub struct Running<'a> {
     mac: &'a Cmac,

@@ -49,7 +49,8 @@ pub enum Layer {
     Store,
 }
 
-// The place is a key's position, a field's offset or 0; the reason is a key manager's own number or 0.
+// The place is a key's position, a field's offset or 0; the reason is a key manager's own number or 0. Both are numbers and no
+// options by rule: every fault has them and prints its place, and either may be stamped on any fault.
 #[derive(Clone, Copy, PartialEq, Eq, Debug)]
 pub struct Fault {
     pub refusal: Refusal,

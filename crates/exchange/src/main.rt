@@ -47,6 +47,7 @@ fn print(rt: &HostRuntime, tallies: &BTreeMap<Kind, Tally>) -> anyhow::Result<()
     Ok(())
 }
 
+// `replay` takes its list the same way. A library function for it could promise nothing.
 fn run(rt: &HostRuntime) -> anyhow::Result<()> {
     let mut args = env::args(rt)?;
     let _program = args.next();

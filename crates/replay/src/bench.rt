@@ -11,7 +11,7 @@ use keysets::manager::{Edit, Manager};
 use keysets::registry::{Place, Registry};
 use keysets::validation::validate_key_version;
 use std::alloc::{AllocError, Global};
-use std::iter;
+use std::{iter, mem};
 
 // The words are those left on the tape, the first one first.
 #[derive(Drop)]
@@ -33,39 +33,6 @@ fn numbers(heap: Global, text: &str) -> anyhow::Result<Vec<u32>> {
         .try_collect(heap)
 }
 
-// A keyset of one new key.
-fn started<M: Kind>(
-    registry: &Registry<M>,
-    kt: &KeyTemplate,
-    tape: &mut Tape,
-) -> Result<Manager, Fault> {
-    let mut manager = Manager::new();
-    manager.rotate(registry, kt, tape)?;
-    Ok(manager)
-}
-
-fn made<M: Kind>(
-    heap: Global,
-    manager: &mut Manager,
-    registry: &Registry<M>,
-    making: Making,
-    kt: &KeyTemplate,
-    tape: &mut Tape,
-) -> Result<Answer, Stop> {
-    match making {
-        Making::Add { primary } => Ok(Answer::Id(manager.add(registry, kt, primary, tape)?)),
-        Making::Rotate => Ok(Answer::Id(manager.rotate(registry, kt, tape)?)),
-        Making::New => {
-            *manager = started(registry, kt, tape)?;
-            Ok(Answer::Done)
-        }
-        Making::NewKey => {
-            let key = registry.new_key(kt, tape)?;
-            Ok(Answer::Key(key.as_slice().to_vec(heap)?))
-        }
-    }
-}
-
 impl<'a, M: Kind> Bench<'a, M> {
     pub fn new(heap: Global, bank: &'a mut [Place<M>]) -> Bench<'a, M> {
         Bench {
@@ -83,20 +50,40 @@ impl<'a, M: Kind> Bench<'a, M> {
         Ok(self.registry.register_key_manager(0)?)
     }
 
+    // A keyset of one new key, in place of the one there was.
+    fn start_over(&mut self, kt: &KeyTemplate, tape: &mut Tape) -> Result<(), Fault> {
+        let mut fresh = Manager::new();
+        fresh.rotate(&self.registry, kt, tape)?;
+        self.manager = fresh;
+        Ok(())
+    }
+
+    fn made(&mut self, making: Making, kt: &KeyTemplate, tape: &mut Tape) -> Result<Answer, Stop> {
+        match making {
+            Making::Add { primary } => {
+                let id = self.manager.add(&self.registry, kt, primary, tape)?;
+                Ok(Answer::Id(id))
+            }
+            Making::Rotate => Ok(Answer::Id(self.manager.rotate(&self.registry, kt, tape)?)),
+            Making::New => {
+                self.start_over(kt, tape)?;
+                Ok(Answer::Done)
+            }
+            Making::NewKey => {
+                let key = self.registry.new_key(kt, tape)?;
+                Ok(Answer::Key(key.as_slice().to_vec(self.heap)?))
+            }
+        }
+    }
+
     // A template outside the limits cannot be made, and the call is left out.
     fn make(&mut self, making: Making, asked: Asked) -> Result<Answer, Stop> {
         let value = rows::read(self.heap, asked.value)?;
         let kt = KeyTemplate::new(asked.type_url, &value, asked.prefix).map_err(|_| Stop::LeftOut)?;
-        let mut tape = Tape::new(&self.words);
-        let answer = made(
-            self.heap,
-            &mut self.manager,
-            &self.registry,
-            making,
-            &kt,
-            &mut tape,
-        );
-        self.words = words_left(self.heap, &mut tape, self.words.len())?;
+        let words = mem::replace(&mut self.words, Vec::new(self.heap));
+        let mut tape = Tape::new(&words);
+        let answer = self.made(making, &kt, &mut tape);
+        self.words = words_left(self.heap, &mut tape, words.len())?;
         answer
     }
 

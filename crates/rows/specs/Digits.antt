@@ -2,6 +2,7 @@
 use Rattle.std.specs.Prelude.{◌≡◌, ℕ, ◌+◌, ◌-◌, ◌*◌, ◌%◌, Bool, cond, List, [], ◌∷◌, length, Some, None, Option, ◌⊎◌, nat_lt, codes}
 use Rattle.std.specs.List.{AllPass}
 use Rattle.std.specs.Option.{is_some, unwrap_or}
+use Rattle.hex.specs.Hex.{encode_lower}
 
 -- 0 to 9, and a to f in small letters
 abbrev pub digit_of : ℕ → Option ℕ
@@ -26,3 +27,8 @@ bytes_of (h ∷ l ∷ rest) = unwrap_or (join (digit_of h) (digit_of l)) 0 ∷ b
 -- `-`, or an even number of digits
 abbrev pub IsRow : List ℕ → Type 0
 IsRow text = (text ≡ codes "-") ⊎ ((length text % 2 ≡ 0) × AllPass is_digit text)
+
+-- the text of a row
+abbrev pub row_text : List ℕ → List ℕ
+row_text [] = codes "-"
+row_text (b ∷ rest) = encode_lower (b ∷ rest)

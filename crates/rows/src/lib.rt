@@ -2,9 +2,11 @@
 // the row of no byte.
 #![tactic(auto)]
 
-ghost use Rattle.std.specs.Prelude.{◌≡◌, ◌↔◌, IsTrue, IsOk, IfOk, IsOkUnless};
+ghost use Rattle.std.specs.Prelude.{◌≡◌, ◌↔◌, Some, IsTrue, OnOk, IsOk, IfOk, IsOkUnless};
 ghost use Rattle.std.specs.List.{AllPass};
-ghost use Rattle.rows.specs.Digits.{is_digit, bytes_of, IsRow};
+ghost use Rattle.std.specs.Fmt.{HasWritten, IsPlainFormatter};
+ghost use Rattle.hex.specs.Hex.{encode_lower};
+ghost use Rattle.rows.specs.Digits.{is_digit, bytes_of, IsRow, row_text};
 ghost use Rattle.rows.specs.declared.RowError.TheVariants.{NoMemory};
 
 use std::alloc::Global;
@@ -51,18 +53,26 @@ pub fn read(heap: Global, text: &str) -> Result<Vec<u8>, RowError>
     hex::decode(heap, text).map_err(|_| RowError::NoMemory)
 }
 
+fn write_digits<W: fmt::Write>(row: &[u8], f: &mut fmt::Formatter<W>) -> fmt::Result
+    ensures { IsPlainFormatter f.old → OnOk result (HasWritten W.Write.write_str_gives f.old (encode_lower row.now) f.new) }
+{
+    for b in row {
+        write!(f, "{b:02x}")?;
+    }
+    Ok(())
+}
+
 // A row as it prints.
 #[derive(Clone, Copy)]
 pub struct Row<'a>(pub &'a [u8]);
 
 impl fmt::Display for Row<'_> {
+    ghost output = { λ row. Some (row_text row.0.now) };
+
     fn fmt<W: fmt::Write>(&self, f: &mut fmt::Formatter<W>) -> fmt::Result {
-        if self.0.is_empty() {
-            return f.write_str("-");
+        match self.0 {
+            [] => f.write_str("-"),
+            row => write_digits(row, f),
         }
-        for b in self.0 {
-            write!(f, "{b:02x}")?;
-        }
-        Ok(())
     }
 }

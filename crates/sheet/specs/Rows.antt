@@ -27,16 +27,16 @@ mark_text primary = cond primary (codes " primary") []
 abbrev pub row : List ℕ → ℕ → List ℕ → List ℕ → List ℕ
 row mark id status prefix = decimal id ++ (codes " " ++ (status ++ (codes " " ++ (prefix ++ (mark ++ codes "\n")))))
 
--- the row that the program prints
+-- the text of what is listed of a key
 abbrev pub text_of : Row → List ℕ
 text_of r = row (mark_text r.is_primary) r.id (status_text (status_of r.status)) (prefix_text (prefix_of r.prefix))
 
-abbrev pub listed : Option Row → List ℕ
-listed None = []
-listed (Some r) = text_of r
+-- what is listed of a key
+abbrev pub row_of : ℕ → KeyMeaning → Row
+row_of primary k = record { id = k.key_id; status = k.status; prefix = k.output_prefix_type; is_primary = k.key_id == primary }
 
 abbrev pub key_row : ℕ → KeyMeaning → List ℕ
-key_row primary k = row (mark_text (k.key_id == primary)) k.key_id (status_text (status_of k.status)) (prefix_text (prefix_of k.output_prefix_type))
+key_row primary k = text_of (row_of primary k)
 
 -- every key, in order, and nothing else
 abbrev pub rows : ℕ → List KeyMeaning → List ℕ
@@ -45,8 +45,3 @@ rows primary (k ∷ ks) = key_row primary k ++ rows primary ks
 
 abbrev pub sheet_of : KeysetMeaning → List ℕ
 sheet_of s = rows s.primary_key_id s.keys
-
--- the row of a key that may be there
-abbrev pub row_of : ℕ → Option KeyMeaning → List ℕ
-row_of primary None = []
-row_of primary (Some k) = key_row primary k

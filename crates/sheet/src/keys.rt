@@ -1,8 +1,9 @@
 // A keyset as lines of text, key by key: ids, statuses and prefix types, and which id is primary. No key bytes.
 ghost use Rattle.std.specs.Prelude.{◌≡◌, Some, IfOk, string_bytes};
+ghost use Rattle.std.specs.Option.{option_map};
 ghost use Rattle.encoding.specs.Lists.{item};
 ghost use Rattle.encoding.specs.Kinds.{status_of, prefix_of};
-ghost use Rattle.sheet.specs.Rows.{status_text, prefix_text, listed, row_of, sheet_of};
+ghost use Rattle.sheet.specs.Rows.{status_text, prefix_text, row_of, sheet_of};
 
 use encoding::numbers::{KeyStatusType, OutputPrefixType};
 use encoding::records::KeyId;
@@ -19,6 +20,7 @@ struct Row {
     is_primary: bool,
 }
 
+// The names are those of a derived `Debug`, but no contract says what that prints.
 fn status_text(status: i32) -> &'static str
     ensures { result.now ≡ status_text (status_of status) }
 {
@@ -58,7 +60,7 @@ impl fmt::Display for Row {
 
 // The row of the key at a position, if there is one.
 fn row_at(manager: &Manager, at: usize) -> Option<Row>
-    ensures { listed result ≡ row_of manager.now.primary_key_id (item manager.now.keys at) }
+    ensures { result ≡ option_map (row_of manager.now.primary_key_id) (item manager.now.keys at) }
 {
     let (Some(id), Some(status), Some(prefix)) = (
         manager.key_id_at(at),
@@ -81,6 +83,7 @@ pub fn keys(heap: Global, manager: &Manager) -> Result<String, AllocError>
     ensures { IfOk result (λ text. string_bytes text ≡ sheet_of manager.now) }
 {
     let mut text = String::new(heap);
+    // By position, since a manager hands out no keys.
     for at in 0..manager.key_count() {
         if let Some(row) = row_at(manager, at) {
             write!(text, "{row}")?;

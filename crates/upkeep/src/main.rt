@@ -32,9 +32,8 @@ fn made(answer: Result<KeyId, Fault>) -> anyhow::Result<KeyId> {
 }
 
 fn template(url: &[u8]) -> anyhow::Result<KeyTemplate> {
-    KeyTemplate::new(url, b"", OutputPrefixType::Tink.into()).map_err(|_| anyhow!(
-        "the template is past a limit"
-    ))
+    let template = KeyTemplate::new(url, b"", OutputPrefixType::Tink.into());
+    template.map_err(|_| anyhow!("the template is past a limit"))
 }
 
 // The primary key stays as it is, and the other one goes through all that may happen to a key.
