@@ -1,13 +1,13 @@
 // A keyset and what may be done to it. Key bytes do not leave the manager.
 ghost use Rattle.std.specs.Prelude.{◌≡◌, length};
-ghost use Rattle.encoding.specs.Views.{key_view, keyset_view};
+ghost use Rattle.encoding.specs.Views.{keyset_view};
 ghost use Rattle.keysets.specs.Answering.{giving};
 ghost use Rattle.keysets.specs.Checks.{checked};
-ghost use Rattle.keysets.specs.Edits.{empty_keyset, blank_key};
+ghost use Rattle.keysets.specs.Edits.{empty_keyset};
 
 use crate::check::check;
 use ciphers::fault::Fault;
-use encoding::records::{Key, Keyset};
+use encoding::records::Keyset;
 use std::marker::Model;
 
 mod adds;
@@ -60,17 +60,5 @@ impl Manager {
         ensures { result ≡ length self.now.keys }
     {
         self.ks.key.len()
-    }
-}
-
-// What fills the places of the list that are not in use.
-fn blank_key() -> Key
-    ensures { key_view result ≡ blank_key }
-{
-    Key {
-        key_data: None,
-        status: 0,
-        key_id: 0,
-        output_prefix_type: 0,
     }
 }

@@ -14,6 +14,7 @@ pub enum Stop {
     Failed(anyhow::Error),
 }
 
+// By hand, since `thiserror` would ask a text of each variant, and a `Stop` is never printed.
 impl From<Fault> for Stop {
     fn from(fault: Fault) -> Stop {
         Stop::Refused(fault)

@@ -56,6 +56,7 @@ fn cmac(heap: Global, key: [u8; 16], message: &[u8], tag: [u8; 16]) -> Result<()
 
 // A copy that was damaged at any one byte is refused, and nothing of it comes out.
 fn siv_damaged(heap: Global, siv: &Siv, data: &[u8], output: &[u8]) -> Result<(), Failure> {
+    // By position, since each copy is damaged at another one.
     for at in 0..output.len() {
         let mut copy = output.to_vec(heap)?;
         copy[at] ^= 1;

@@ -6,8 +6,9 @@ ghost use Rattle.keysets.specs.Answering.{only_if};
 ghost use Rattle.encoding.specs.Kinds.{status_of};
 ghost use Rattle.keysets.specs.Edits.{position_of, key_at, takes, spares_primary, spared_in, key_after, keyset_after, key_is_primary, key_not_found, status_bars, Edits};
 
-use crate::manager::{Edit, Manager, blank_key};
+use crate::manager::{Edit, Manager};
 use ciphers::fault::{Fault, Layer, Refusal};
+use encoding::message::Message;
 use encoding::numbers::KeyStatusType;
 use encoding::records::{Key, KeyId};
 
@@ -129,7 +130,7 @@ impl Manager {
                 self.ks.key.set(at, key);
             }
             Edit::Delete => {
-                self.ks.key.remove(at, blank_key());
+                self.ks.key.remove(at, Key::empty());
             }
             Edit::SetPrimary => self.ks.primary_key_id = id,
         }
