@@ -1,7 +1,5 @@
-use Rattle.std.proofs.Common.{List, sym, refl, ap, ◌∙◌, arith}
-use Rattle.std.proofs.lemmas.List.{take_all}
+use Rattle.std.proofs.Common.{sym, refl, arith}
 use Rattle.encoding.specs.Wire.{encode}
-use Rattle.encoding.specs.Members.{each}
 use Rattle.encoding.specs.Layings.{then, laid_as, laid_empty}
 use Rattle.encoding.specs.Parts.{each_more}
 use Rattle.encoding.proofs.member.BoundedMember.put.Goals as goal
@@ -14,8 +12,3 @@ pub loop-one-preserved : goal.loop-one-preserved
 loop-one-preserved g c =
     laid_as _ _ _ _ (sym (each_more g.R.Message.fields c.args.field c.as_slice-one-items.result.now c.loop-one.one-index c.one-item.result c.loop-one-test.true c.one-item.is))
     (then _ _ _ _ _ (omega (arith, c.well_formed)) c.loop-one.invariant c.record.ensures)
-
-pub returns : goal.returns
-returns g c =
-    laid_as _ _ _ _ (ap (λ (xs : List g.row.R.Denot). encode (each g.R.Message.fields c.args.field xs))
-    (take_all c.loop-one.one-index c.as_slice-one-items.result.now c.loop-one-test.false ∙ c.as_slice-one-items.ensures)) c.loop-one.invariant

@@ -1,6 +1,4 @@
-use Rattle.std.proofs.Common.{sym, ap, ◌∙◌, arith}
-use Rattle.std.proofs.lemmas.List.{take_all}
-use Rattle.encoding.specs.Lists.{visible}
+use Rattle.std.proofs.Common.{sym, arith}
 use Rattle.encoding.proofs.Urls.{visible_bad, visible_more}
 use Rattle.encoding.proofs.url.TypeUrl.new.Goals as goal
 
@@ -10,8 +8,3 @@ returns-then-not-is_visible c =
 
 pub loop-b-preserved : goal.loop-b-preserved
 loop-b-preserved c = visible_more c.args.bytes.now c.loop-b.b-index (omega arith) c.loop-b.invariant (sym c.if-not-is_visible.ensures)
-
-pub invariant_of-result : goal.invariant_of-result
-invariant_of-result c =
-    let e = c.in_ok-text.ensures in
-    record { seen = ap visible (e.0 ∙ sym (take_all c.loop-b.b-index c.args.bytes.now (omega arith))) ∙ c.loop-b.invariant; clean = e.1 }
