@@ -184,8 +184,7 @@ impl<R: Message, const N: usize> Member for Bounded<R, N> {
 
     fn size(&self) -> usize {
         let mut total = 0usize;
-        let items = self.as_slice();
-        for one in items {
+        for one in self.as_slice() {
             total = total.saturating_add(record_len(one));
         }
         total
