@@ -191,8 +191,8 @@ impl<R: Message, const N: usize> Member for Bounded<R, N> {
     }
 
     fn put(&self, field: u64, out: &mut Output<'_>) {
-        for one in self.as_slice() {
-            out.record(field, one);
+        for item in self.as_slice() {
+            out.record(field, item);
         }
     }
 
