@@ -1,8 +1,8 @@
 -- Records inside records: one that may be absent, and a list of them.
-use Rattle.std.proofs.Common.{◌≡◌, ℕ, suc, ◌<◌, List, [], ◌∷◌, ◌++◌, map, length, Some, None, Option, Ok, Err, Result, MatchResult, is_ok, ap, ◌∙◌, arith}
+use Rattle.std.proofs.Common.{◌≡◌, ℕ, ◌<◌, List, [], ◌∷◌, ◌++◌, map, length, Ok, Err, Result, MatchResult, is_ok, ap, ◌∙◌, arith}
 use Rattle.std.proofs.lemmas.List.{length-append, length-map, map_push}
 use Rattle.encoding.specs.Wire.{Field, number, bytes, encode}
-use Rattle.encoding.specs.Members.{present, each}
+use Rattle.encoding.specs.Members.{each}
 use Rattle.encoding.specs.Messages.{Filled, Unread}
 use Rattle.encoding.specs.Lists.{list}
 use Rattle.encoding.specs.declared.bounded.Bounded.{Bounded}
@@ -12,14 +12,6 @@ use Rattle.ciphers.specs.Faults.{fault}
 use Rattle.ciphers.specs.declared.fault.Fault.{Fault}
 use Rattle.ciphers.specs.declared.fault.Refusal.TheVariants.{BreaksEncoding}
 use Rattle.ciphers.specs.declared.fault.Layer.TheVariants.{Encoding}
-
--- bytes that its reader refuses are no record's
-pub present_bad : {R : Type 0} (fields : R → List Field) (k : ℕ) (old new : Option R) (bs : List ℕ) (f : Fault) (gs : List Field) → Unread fields bs f
-    → present fields k new ≡ present fields k old ++ (bytes k bs ∷ gs) → ⊥
-present_bad fields k None None bs f gs u e = let z : ◌≡◌ {A = ℕ} 0 (suc (length gs)) = ap length e in omega arith
-present_bad fields k None (Some r) bs f gs u e = let q : encode (fields r) ≡ bs = cc in never_place fields bs f.place r q u.place_is
-present_bad fields k (Some o) None bs f gs u e = let z : ◌≡◌ {A = ℕ} 0 (suc (suc (length gs))) = ap length e in omega arith
-present_bad fields k (Some o) (Some r) bs f gs u e = let z : ◌≡◌ {A = ℕ} 1 (suc (suc (length gs))) = ap length e in omega arith
 
 pub each_push : {R : Type 0} (fields : R → List Field) (k : ℕ) (old new : List R) (made : R) (bs : List ℕ) → new ≡ old ++ (made ∷ [])
     → encode (fields made) ≡ bs → each fields k new ≡ each fields k old ++ (bytes k bs ∷ [])

@@ -186,12 +186,6 @@ unfolding base128
 base128-some zero v = omega arith
 base128-some (suc k) v = elim (cases_lt v 128) [ inl l ↦ rw (lt-ltb v 128 l) (omega arith) | inr g ↦ rw (le-ltb v 128 g) (omega arith) ]
 
-pub base128_one : (k v : ℕ) → (k ≡ 0) ⊎ ((k ≢ 0) × (v < 128)) → 1 ≡ length (base128 k v)
-unfolding base128
-base128_one zero v h = refl
-base128_one (suc k) v (inl z) = absurd (omega arith)
-base128_one (suc k) v (inr p) = rw (lt-ltb v 128 p.1) refl
-
 -- the least number that takes j bytes before its last
 unfoldable pub span : ℕ → ℕ
 span zero = 1

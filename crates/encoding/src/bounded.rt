@@ -1,4 +1,5 @@
-// A list of at most `N` items, without allocation.
+// A list of at most `N` items, without allocation. It has no model: what is copied would have to be made again of its list,
+// which tells nothing of the places that are not in use.
 ghost use Rattle.std.specs.Prelude.{◌≡◌, ◌≤◌, ⊤, length};
 
 mod methods;

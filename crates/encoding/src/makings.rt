@@ -8,6 +8,7 @@ ghost use Rattle.encoding.specs.Limits.{KeyDataWithin, KeyTemplateWithin};
 ghost use Rattle.encoding.specs.Views.{key_data_view, key_template_view, keyset_view};
 
 use crate::bounded::Bounded;
+use crate::message::Message;
 use crate::records::{Key, KeyData, KeyTemplate, Keyset};
 use crate::url::TypeUrl;
 use ciphers::fault::Fault;
@@ -51,15 +52,9 @@ impl Keyset {
     pub fn new() -> Keyset
         ensures { keyset_view result ≡ keyset_of 0 [] }
     {
-        let blank = Key {
-            key_data: None,
-            status: 0,
-            key_id: 0,
-            output_prefix_type: 0,
-        };
         Keyset {
             primary_key_id: 0,
-            key: Bounded::empty(blank),
+            key: Bounded::empty(Key::empty()),
         }
     }
 }

@@ -184,16 +184,15 @@ impl<R: Message, const N: usize> Member for Bounded<R, N> {
 
     fn size(&self) -> usize {
         let mut total = 0usize;
-        let items = self.as_slice();
-        for one in items {
+        for one in self.as_slice() {
             total = total.saturating_add(record_len(one));
         }
         total
     }
 
     fn put(&self, field: u64, out: &mut Output<'_>) {
-        for one in self.as_slice() {
-            out.record(field, one);
+        for item in self.as_slice() {
+            out.record(field, item);
         }
     }
 

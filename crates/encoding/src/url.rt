@@ -10,7 +10,8 @@ ghost use Rattle.std.proofs.Common.{rules};
 ghost use Rattle.std.specs.Str.{bytes_eq};
 
 use crate::bounded::Bounded;
-use ciphers::fault::{Fault, Layer, Refusal};
+use crate::content::broken;
+use ciphers::fault::Fault;
 
 fn is_visible(b: u8) -> bool
     ensures { result ≡ visible_byte b }
@@ -40,10 +41,8 @@ impl TypeUrl {
         ensures { MatchResult result (λ u. list u.text ≡ bytes.now)
             (λ f. (f ≡ fault BreaksEncoding Encoding) × ((length bytes.now ≤ 64) × (visible bytes.now ≡ true) → ⊥)) }
     {
-        for b in bytes {
-            if !is_visible(*b) {
-                return Err(Fault::new(Refusal::BreaksEncoding, Layer::Encoding));
-            }
+        if !bytes.iter().all(|b| is_visible(*b)) {
+            return Err(broken());
         }
         let text = Bounded::from_slice(bytes, 0)?;
         Ok(TypeUrl { text })

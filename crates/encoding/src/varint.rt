@@ -7,34 +7,18 @@ ghost use Rattle.encoding.specs.Scanning.{unvarint};
 pub(crate) fn varint_len(value: u64) -> usize
     ensures { result ≡ length (varint value) }
 {
-    if value < 0x80 {
-        return 1;
+    match value {
+        ..0x80 => 1,
+        ..0x4000 => 2,
+        ..0x20_0000 => 3,
+        ..0x1000_0000 => 4,
+        ..0x8_0000_0000 => 5,
+        ..0x400_0000_0000 => 6,
+        ..0x2_0000_0000_0000 => 7,
+        ..0x100_0000_0000_0000 => 8,
+        ..0x8000_0000_0000_0000 => 9,
+        _ => 10,
     }
-    if value < 0x4000 {
-        return 2;
-    }
-    if value < 0x20_0000 {
-        return 3;
-    }
-    if value < 0x1000_0000 {
-        return 4;
-    }
-    if value < 0x8_0000_0000 {
-        return 5;
-    }
-    if value < 0x400_0000_0000 {
-        return 6;
-    }
-    if value < 0x2_0000_0000_0000 {
-        return 7;
-    }
-    if value < 0x100_0000_0000_0000 {
-        return 8;
-    }
-    if value < 0x8000_0000_0000_0000 {
-        return 9;
-    }
-    10
 }
 
 // The number at the front and how many bytes it takes, of at most `left` before the last.

@@ -88,12 +88,7 @@ impl Message for KeysetInfo {
     fn empty() -> KeysetInfo {
         KeysetInfo {
             primary_key_id: 0,
-            key_info: Bounded::empty(KeyInfo {
-                type_url: TypeUrl::empty(),
-                status: 0,
-                key_id: 0,
-                output_prefix_type: 0,
-            }),
+            key_info: Bounded::empty(KeyInfo::empty()),
         }
     }
 

@@ -134,15 +134,7 @@ impl Message for Keyset {
     ghost told = { λ r s e. Keysets.told r s e };
 
     fn empty() -> Keyset {
-        Keyset {
-            primary_key_id: 0,
-            key: Bounded::empty(Key {
-                key_data: None,
-                status: 0,
-                key_id: 0,
-                output_prefix_type: 0,
-            }),
-        }
+        Keyset::new()
     }
 
     fn add(&mut self, field: u64, content: Content<'_>) -> Result<(), Fault> {

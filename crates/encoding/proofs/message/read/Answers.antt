@@ -1,5 +1,5 @@
 use Rattle.std.proofs.Common.{◌≡◌, ℕ, List, Ok, Err, Result, MatchResult, sym, ap, ◌∙◌, subst, arith, rules}
-use Rattle.std.proofs.lemmas.List.{take_rest, take_all}
+use Rattle.std.proofs.lemmas.List.{take_rest}
 use Rattle.std.proofs.lemmas.Result.{err_from_is_err_and}
 use Rattle.encoding.specs.Wire.{encode}
 use Rattle.ciphers.specs.Faults.{fault, placed}
@@ -42,6 +42,3 @@ loop-at-preserved g c =
     let w = subst (λ (x : List ℕ). Went g.R.Message.fields c.loop-at.made c.step.new.made x piece.size piece.number) (take_rest c.args.input.now c.loop-at.at) h in
     let m = went_more g.R.Message.fields c.args.input.now c.loop-at.at piece.size piece.number c.loop-at.made c.step.new.made c.loop-at.invariant.0 c.loop-at.invariant.1 w in
     (m.0, m.1, w.number ∙ sym (ap (last_of 0) w.added ∙ last_push 0 (g.R.Message.fields c.loop-at.made) w.field))
-
-pub returns : goal.returns
-returns g c = c.loop-at.invariant.1 ∙ take_all c.loop-at.at c.args.input.now (omega arith)

@@ -1,21 +1,14 @@
-use Rattle.std.proofs.Common.{List, sym, refl, ap, ◌∙◌, arith}
-use Rattle.std.proofs.lemmas.List.{take_all}
+use Rattle.std.proofs.Common.{sym, refl, arith}
 use Rattle.encoding.specs.Wire.{encode}
-use Rattle.encoding.specs.Members.{each}
 use Rattle.encoding.specs.Layings.{then, laid_as, laid_empty}
 use Rattle.encoding.specs.Parts.{each_more}
 use Rattle.encoding.proofs.member.BoundedMember.put.Goals as goal
 
-pub loop-one-init : goal.loop-one-init
+pub loop-item-init : goal.loop-item-init
 unfolding encode
-loop-one-init g c = laid_empty _ _ refl
+loop-item-init g c = laid_empty _ _ refl
 
-pub loop-one-preserved : goal.loop-one-preserved
-loop-one-preserved g c =
-    laid_as _ _ _ _ (sym (each_more g.R.Message.fields c.args.field c.as_slice-one-items.result.now c.loop-one.one-index c.one-item.result c.loop-one-test.true c.one-item.is))
-    (then _ _ _ _ _ (omega (arith, c.well_formed)) c.loop-one.invariant c.record.ensures)
-
-pub returns : goal.returns
-returns g c =
-    laid_as _ _ _ _ (ap (λ (xs : List g.row.R.Denot). encode (each g.R.Message.fields c.args.field xs))
-    (take_all c.loop-one.one-index c.as_slice-one-items.result.now c.loop-one-test.false ∙ c.as_slice-one-items.ensures)) c.loop-one.invariant
+pub loop-item-preserved : goal.loop-item-preserved
+loop-item-preserved g c =
+    laid_as _ _ _ _ (sym (each_more g.R.Message.fields c.args.field c.as_slice-item-items.result.now c.loop-item.item-index c.item-item.result c.loop-item-test.true c.item-item.is))
+    (then _ _ _ _ _ (omega (arith, c.well_formed)) c.loop-item.invariant c.record.ensures)

@@ -1,17 +1,17 @@
-use Rattle.std.proofs.Common.{sym, ap, ◌∙◌, arith}
-use Rattle.std.proofs.lemmas.List.{take_all}
-use Rattle.encoding.specs.Lists.{visible}
-use Rattle.encoding.proofs.Urls.{visible_bad, visible_more}
+use Rattle.std.proofs.Common.{◌≡◌, true, false, ap, ◌∙◌, arith, rules}
+use borrow.Author.Tests.{tests}
+use Rattle.std.proofs.lemmas.Iterator.{cases_from_all, YieldsList-from_slice}
+use Rattle.encoding.specs.Lists.{visible, visible_byte}
+use Rattle.encoding.proofs.Urls.{visible_bad, visible_all}
 use Rattle.encoding.proofs.url.TypeUrl.new.Goals as goal
 
-pub returns-then-not-is_visible : goal.returns-then-not-is_visible
-returns-then-not-is_visible c =
-    (c.new.ensures, λ p. visible_bad c.args.bytes.now c.loop-b.b-index (omega arith) (sym c.if-not-is_visible.ensures) p.1)
-
-pub loop-b-preserved : goal.loop-b-preserved
-loop-b-preserved c = visible_more c.args.bytes.now c.loop-b.b-index (omega arith) c.loop-b.invariant (sym c.if-not-is_visible.ensures)
+pub returns-then-not-all : goal.returns-then-not-all
+returns-then-not-all c =
+    let r = cases_from_all _ _ _ (λ b. visible_byte b ≡ true) (λ b. visible_byte b ≡ false) c.if-not-all.ensures.ran (YieldsList-from_slice c.args.bytes.now cc) (λ x q k. search (rules, tests)) (λ x q k. search (rules, tests)) in
+    (c.broken.ensures, λ p. visible_bad c.args.bytes.now r.0 r.1 (r.2 0) p.1)
 
 pub invariant_of-result : goal.invariant_of-result
 invariant_of-result c =
+    let r = cases_from_all _ _ _ (λ b. visible_byte b ≡ true) (λ b. visible_byte b ≡ false) c.if-not-all.ensures.ran (YieldsList-from_slice c.args.bytes.now cc) (λ x q k. search (rules, tests)) (λ x q k. search (rules, tests)) in
     let e = c.in_ok-text.ensures in
-    record { seen = ap visible (e.0 ∙ sym (take_all c.loop-b.b-index c.args.bytes.now (omega arith))) ∙ c.loop-b.invariant; clean = e.1 }
+    record { seen = ap visible e.0 ∙ visible_all c.args.bytes.now (λ k d l. r k d (omega arith) l); clean = e.1 }

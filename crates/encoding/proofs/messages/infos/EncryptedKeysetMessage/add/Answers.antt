@@ -5,11 +5,11 @@ use Rattle.encoding.specs.Shapes.{at-field, stranger}
 use Rattle.encoding.specs.EncryptedKeysets.{sound, take2, take3}
 use Rattle.encoding.proofs.messages.infos.EncryptedKeysetMessage.add.Goals as goal
 
-pub returns-in-2 : goal.returns-in-2
-returns-in-2 c = record { took = at-field fields_of_encrypted_keyset _ c.args.self.now _ c.args.field 2 c.args.content c.in-2.is (take2 _ c.args.self.now _ c.args.content refl (c.fill.ensures.step 2)); fault = c.fill.ensures.fault }
+pub returns-in-2-clause-took : goal.returns-in-2-clause-took
+returns-in-2-clause-took c = at-field fields_of_encrypted_keyset _ c.args.self.now _ c.args.field 2 c.args.content c.in-2.is (take2 _ c.args.self.now _ c.args.content refl (c.fill.ensures.step 2))
 
-pub returns-in-3 : goal.returns-in-3
-returns-in-3 c = record { took = at-field fields_of_encrypted_keyset _ c.args.self.now _ c.args.field 3 c.args.content c.in-3.is (take3 _ c.args.self.now _ c.args.content refl (c.fill-in-3.ensures.step 3)); fault = c.fill-in-3.ensures.fault }
+pub returns-in-3-clause-took : goal.returns-in-3-clause-took
+returns-in-3-clause-took c = at-field fields_of_encrypted_keyset _ c.args.self.now _ c.args.field 3 c.args.content c.in-3.is (take3 _ c.args.self.now _ c.args.content refl (c.fill-in-3.ensures.step 3))
 
-pub returns-in_default : goal.returns-in_default
-returns-in_default c = record { took = stranger fields_of_encrypted_keyset encrypted_keyset_knows 5708 sound c.args.self.now c.args.field c.args.content (λ v. search rules) (λ b. search rules); fault = search rules }
+pub returns-in_default-clause-took : goal.returns-in_default-clause-took
+returns-in_default-clause-took c = stranger fields_of_encrypted_keyset encrypted_keyset_knows 5708 sound c.args.self.now c.args.field c.args.content (λ v. search rules) (λ b. search rules)

@@ -5,11 +5,11 @@ use Rattle.encoding.specs.Shapes.{at-field, stranger}
 use Rattle.encoding.specs.Keysets.{sound, take1, take2}
 use Rattle.encoding.proofs.messages.keys.KeysetMessage.add.Goals as goal
 
-pub returns-in-1 : goal.returns-in-1
-returns-in-1 c = record { took = at-field fields_of_keyset _ c.args.self.now _ c.args.field 1 c.args.content c.in-1.is (take1 _ c.args.self.now _ c.args.content refl (c.fill.ensures.step 1)); fault = c.fill.ensures.fault }
+pub returns-in-1-clause-took : goal.returns-in-1-clause-took
+returns-in-1-clause-took c = at-field fields_of_keyset _ c.args.self.now _ c.args.field 1 c.args.content c.in-1.is (take1 _ c.args.self.now _ c.args.content refl (c.fill.ensures.step 1))
 
-pub returns-in-2 : goal.returns-in-2
-returns-in-2 c = record { took = at-field fields_of_keyset _ c.args.self.now _ c.args.field 2 c.args.content c.in-2.is (take2 _ c.args.self.now _ c.args.content refl (c.fill-in-2.ensures.step 2)); fault = c.fill-in-2.ensures.fault }
+pub returns-in-2-clause-took : goal.returns-in-2-clause-took
+returns-in-2-clause-took c = at-field fields_of_keyset _ c.args.self.now _ c.args.field 2 c.args.content c.in-2.is (take2 _ c.args.self.now _ c.args.content refl (c.fill-in-2.ensures.step 2))
 
-pub returns-in_default : goal.returns-in_default
-returns-in_default c = record { took = stranger fields_of_keyset keyset_knows 3878 sound c.args.self.now c.args.field c.args.content (λ v. search rules) (λ b. search rules); fault = search rules }
+pub returns-in_default-clause-took : goal.returns-in_default-clause-took
+returns-in_default-clause-took c = stranger fields_of_keyset keyset_knows 3878 sound c.args.self.now c.args.field c.args.content (λ v. search rules) (λ b. search rules)
