@@ -48,6 +48,7 @@ impl Manager {
         ensures { result ≡ bytes_eq (encode (keyset_fields self.now)) bytes.now }
     {
         let mut out = [0u8; Keyset::LARGEST];
+        // Under `is_ok_and` the check knows what the closure may read, but not what it answers.
         match write(&self.ks, &mut out) {
             Ok(len) => &out[..len] == bytes,
             Err(_) => false,
