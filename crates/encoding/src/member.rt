@@ -73,7 +73,7 @@ fn wide(x: i32) -> u64
 }
 
 // The signed number whose 64 bits are `v`, if it has 32.
-pub(crate) fn narrow(v: u64) -> Option<i32>
+fn narrow(v: u64) -> Option<i32>
     ensures { MatchOption result ((z : ℤ) → FitsSigned w32 z → of_z w64 z ≢ v) (λ z. of_z w64 z ≡ v) }
 {
     i32::try_from(v.cast_signed()).ok()
