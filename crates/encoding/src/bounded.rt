@@ -14,7 +14,7 @@ pub struct Bounded<T: Copy, const N: usize> {
     ghost full: { length items ≡ N },
 }
 
-// A copy, which never fails.
+// A copy, which never fails. A generic struct with a ghost field derives none.
 impl<T: Copy, const N: usize> Clone for Bounded<T, N> {
     ghost is_clone = { λ a b. a ≡ b };
 

@@ -1,5 +1,5 @@
 // A member of a record: what it is written as, and how one more field fills it.
-ghost use Rattle.std.specs.Prelude.{ℕ, ◌^◌, ◌<◌, ℤ, MatchOption, FitsSigned, ◌≢◌, ◌≡◌, List, IfErr, is_ok};
+ghost use Rattle.std.specs.Prelude.{ℕ, ◌^◌, ◌<◌, ℤ, MatchOption, FitsSigned, ◌≢◌, ◌≡◌, List, IfErr, is_ok, ⊤};
 ghost use Rattle.std.specs.Int.Signed.{mag};
 ghost use Rattle.std.proofs.Common.{of_z};
 ghost use Rattle.std.specs.Int.{w32, w64};
@@ -23,7 +23,7 @@ pub(crate) trait Member {
     ghost part: { ℕ → Self → List Field };
 
     // The values that it can have.
-    ghost Fits: { Self → Type 0 };
+    ghost Fits: { Self → Type 0 } = { λ _. ⊤ };
 
     // How many bytes it takes, or the largest number there is.
     fn size(&self) -> usize
@@ -73,7 +73,7 @@ fn wide(x: i32) -> u64
 }
 
 // The signed number whose 64 bits are `v`, if it has 32.
-pub(crate) fn narrow(v: u64) -> Option<i32>
+fn narrow(v: u64) -> Option<i32>
     ensures { MatchOption result ((z : ℤ) → FitsSigned w32 z → of_z w64 z ≢ v) (λ z. of_z w64 z ≡ v) }
 {
     i32::try_from(v.cast_signed()).ok()
@@ -105,8 +105,6 @@ impl Member for i32 {
 impl<const N: usize> Member for Bounded<u8, N> {
     ghost part = { λ k b. text k (list b) };
 
-    ghost Fits = { λ _. Unit {0} };
-
     fn size(&self) -> usize {
         text_len(self.len())
     }
@@ -127,8 +125,6 @@ impl<const N: usize> Member for Bounded<u8, N> {
 
 impl Member for TypeUrl {
     ghost part = { λ k u. text k (list u.text) };
-
-    ghost Fits = { λ _. Unit {0} };
 
     fn size(&self) -> usize {
         text_len(self.as_bytes().len())
@@ -151,8 +147,6 @@ impl Member for TypeUrl {
 // A record inside another has its own reader, and is refused where that refuses.
 impl<R: Message> Member for Option<R> {
     ghost part = { λ k o. present R.fields k o };
-
-    ghost Fits = { λ _. Unit {0} };
 
     fn size(&self) -> usize {
         match self {
@@ -179,8 +173,6 @@ impl<R: Message> Member for Option<R> {
 
 impl<R: Message, const N: usize> Member for Bounded<R, N> {
     ghost part = { λ k b. each R.fields k (list b) };
-
-    ghost Fits = { λ _. Unit {0} };
 
     fn size(&self) -> usize {
         let mut total = 0usize;

@@ -3,7 +3,7 @@ ghost use Rattle.std.specs.Prelude.{◌≡◌, ◌-◌, ◌≤◌, true, [], len
 ghost use Rattle.ciphers.specs.Faults.{fault};
 ghost use Rattle.ciphers.specs.declared.fault.Refusal.TheVariants.{BreaksEncoding};
 ghost use Rattle.ciphers.specs.declared.fault.Layer.TheVariants.{Encoding};
-ghost use Rattle.encoding.specs.Lists.{list, unused, visible, visible_byte};
+ghost use Rattle.encoding.specs.Lists.{list, unused, visible};
 ghost use Rattle.std.specs.Cmp.{partial_equiv_from_equiv};
 ghost use Rattle.std.specs.Cmp.Rules.{comparing};
 ghost use Rattle.std.proofs.Common.{rules};
@@ -12,12 +12,6 @@ ghost use Rattle.std.specs.Str.{bytes_eq};
 use crate::bounded::Bounded;
 use crate::content::broken;
 use ciphers::fault::Fault;
-
-fn is_visible(b: u8) -> bool
-    ensures { result ≡ visible_byte b }
-{
-    0x21 <= b && b <= 0x7e
-}
 
 // Past its length the array is zero, so that equal bytes are one value.
 #[derive(Clone, Copy)]
@@ -41,7 +35,7 @@ impl TypeUrl {
         ensures { MatchResult result (λ u. list u.text ≡ bytes.now)
             (λ f. (f ≡ fault BreaksEncoding Encoding) × ((length bytes.now ≤ 64) × (visible bytes.now ≡ true) → ⊥)) }
     {
-        if !bytes.iter().all(|b| is_visible(*b)) {
+        if !bytes.iter().all(|b| b.is_ascii_graphic()) {
             return Err(broken());
         }
         let text = Bounded::from_slice(bytes, 0)?;
@@ -62,7 +56,7 @@ impl TypeUrl {
     }
 }
 
-// Yes exactly for equal type URLs.
+// Yes exactly for equal type URLs. A derived one would need one of bounded lists, and that compared places not in use.
 impl PartialEq for TypeUrl {
     ghost eq = { λ a b. bytes_eq (list a.text) (list b.text) };
 

@@ -6,7 +6,8 @@ ghost use Rattle.ciphers.specs.declared.fault.Layer.TheVariants.{Encoding};
 ghost use Rattle.encoding.specs.Lists.{list, unused, item};
 
 use crate::bounded::Bounded;
-use ciphers::fault::{Fault, Layer, Refusal};
+use crate::content::broken;
+use ciphers::fault::Fault;
 
 impl<T: Copy, const N: usize> Bounded<T, N> {
     // `blank` fills the places that are not in use.
@@ -27,7 +28,7 @@ impl<T: Copy, const N: usize> Bounded<T, N> {
             (λ f. (f ≡ fault BreaksEncoding Encoding) × (N < length from.now)) }
     {
         if from.len() > N {
-            return Err(Fault::new(Refusal::BreaksEncoding, Layer::Encoding));
+            return Err(broken());
         }
         let mut items = [blank; N];
         let len = from.len();
@@ -70,7 +71,7 @@ impl<T: Copy, const N: usize> Bounded<T, N> {
     {
         let n = self.len;
         if n >= N {
-            return Err(Fault::new(Refusal::BreaksEncoding, Layer::Encoding));
+            return Err(broken());
         }
         self.items[n] = x;
         self.len = n + 1;
