@@ -29,7 +29,8 @@ pub(crate) trait Member {
     fn size(&self) -> usize
         ensures { (k : ℕ) → k < 16 → Counted (encode (part k self.now)) result };
 
-    // Lays it over the output, as far as it reaches.
+    // Lays it over the output, as far as it reaches. A field's number has no type of its own: each call would make one and
+    // each contract take it apart.
     fn put(&self, field: u64, out: &mut Output<'_>)
         requires { field < 16 }
         ensures { Laid (encode (part field self.now)) out.old out.new };

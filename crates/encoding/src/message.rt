@@ -113,6 +113,7 @@ pub fn read<R: Message>(input: &[u8]) -> Result<R, Fault>
 {
     let mut made = R::empty();
     let mut last = 0;
+    // A refusal has its place in the input, so the loop goes by places.
     let mut at = 0;
     while at < input.len() {
         let piece = step(&mut made, last, &input[at..]).map_err(|fault| fault.at(at))?;

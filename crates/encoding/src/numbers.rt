@@ -1,4 +1,5 @@
-// The numbers of status, prefix type and key material that have a meaning.
+// The numbers of status, prefix type and key material that have a meaning. Each enum has impls of its own: the gate takes
+// none that a macro of the repository writes.
 ghost use Rattle.std.specs.Prelude.{◌≡◌};
 ghost use Rattle.encoding.specs.Numbers.{status_number, prefix_number, material_number};
 ghost use Rattle.encoding.specs.Kinds.{KindOf, status_of, prefix_of, material_of};

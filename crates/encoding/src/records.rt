@@ -1,4 +1,5 @@
-// Tink's records. Status, prefix type and material hold any number; the enums of `numbers` name the ones with a meaning.
+// Tink's records, under its names. Status, prefix type and material hold any number, so that reading undoes writing; the
+// enums of `numbers` name the ones with a meaning.
 // A record outside the limits cannot be made: 16 keys, type URLs of 64 bytes, values of 128, an encrypted keyset of 4,160.
 ghost use Rattle.std.specs.Prelude.{◌^◌, ◌<◌};
 ghost use Rattle.std.specs.Int.Signed.{mag};
