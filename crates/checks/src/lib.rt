@@ -1,4 +1,4 @@
-// Examples of the rules of `ciphers`, as tests. The contracts say more; these are what a reader can run.
+// Examples of the rules of `ciphers` and `rows`, as tests. The contracts say more; these are what a reader can run.
 // Expected values come from the standards and from another implementation of AES and SIV (Python's `cryptography`).
 #![tactic(auto)]
 
@@ -10,3 +10,5 @@ mod counters;
 mod draws;
 #[cfg(test)]
 mod faults;
+#[cfg(test)]
+mod rows;
