@@ -11,6 +11,7 @@ pub mod Known
 pub mod Claims
 pub mod Numbers
 pub mod Limits
+pub mod Texts
 pub mod KeyDatas
 pub mod Fields
 pub mod Varints

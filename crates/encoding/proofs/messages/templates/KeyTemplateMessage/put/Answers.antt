@@ -3,13 +3,14 @@ use Rattle.encoding.specs.Meanings.{key_template_fields}
 use Rattle.encoding.specs.Views.{fields_of_key_template}
 use Rattle.encoding.specs.Layings.{laid-room}
 use Rattle.encoding.specs.Parts.{both, alone}
-use Rattle.encoding.specs.KeyTemplates.{piece1, piece2, piece3, tail1, tail2}
+use Rattle.encoding.specs.Texts.{piece1, piece2, piece3, tail1, tail2}
+use Rattle.encoding.specs.KeyTemplates.{three}
 use Rattle.encoding.proofs.messages.templates.KeyTemplateMessage.put.Goals as goal
 
 pub returns : goal.returns
 unfolding key_template_fields fields_of_key_template
 returns c =
     let r = c.args.self.now in
-    both (piece1 r) (tail1 r) _ _ _ (omega arith) c.put.ensures
-    (both (piece2 r) (tail2 r) _ _ _ (laid-room _ _ _ (omega arith) c.put.ensures) c.put-2.ensures
-    (alone (piece3 r) _ _ c.put-3.ensures))
+    both (piece1 three r) (tail1 three r) _ _ _ (omega arith) c.put.ensures
+    (both (piece2 three r) (tail2 three r) _ _ _ (laid-room _ _ _ (omega arith) c.put.ensures) c.put-2.ensures
+    (alone (piece3 three r) _ _ c.put-3.ensures))
