@@ -8,7 +8,8 @@ mod rounds;
 mod schedule;
 mod tables;
 
-// A key made ready: the 44 words that KEYEXPANSION makes of it, of which the first four are the key.
+// A key made ready: the 44 words that KEYEXPANSION makes of it, of which the first four are the key. It has no model, nor have
+// the other types of this crate that are `Copy`: a model would have to give the fields back of the key.
 #[derive(Clone, Copy)]
 pub struct Aes128 {
     words: [u32; 44],

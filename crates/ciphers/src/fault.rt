@@ -66,7 +66,7 @@ impl Refusal {
         *self as u8
     }
 
-    // What a person reads.
+    // What a person reads, as the table of refusals has it.
     pub fn words(&self) -> &'static str
         ensures { result.now ≡ words_of self.now }
     {
@@ -165,7 +165,8 @@ impl Fault {
     }
 }
 
-// As `refused 12 M at 3: the key's status bars the edit`; a key manager's reason follows its number.
+// As `refused 12 M at 3: the key's status bars the edit`; a key manager's reason follows its number. Written by hand, since
+// the contract pins the text, and nothing is said of what a derive prints.
 impl fmt::Display for Fault {
     ghost output = { λ f. Some (printed f) };
 

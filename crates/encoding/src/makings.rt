@@ -1,4 +1,5 @@
-// Making records of bytes and numbers, within the limits.
+// Making records of bytes and numbers, within the limits. A key's data and a template have the same three members under
+// Tink's names, and are made alike.
 ghost use Rattle.std.specs.Prelude.{◌≡◌, [], MatchResult};
 ghost use Rattle.ciphers.specs.Faults.{fault};
 ghost use Rattle.ciphers.specs.declared.fault.Refusal.TheVariants.{BreaksEncoding};

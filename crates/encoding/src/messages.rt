@@ -1,4 +1,5 @@
-// The seven records, each by its own fields alone.
+// The seven records, each with an impl of its own: it is the table of the members that Tink gives the record, with their
+// numbers and types.
 mod infos;
 mod keys;
 mod templates;

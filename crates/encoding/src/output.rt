@@ -1,4 +1,5 @@
-// An output that is written from its front: what fits is written, and `at` goes on to where the whole would end.
+// An output that is written from its front: what fits is written, and `at` goes on to where the whole would end. There is no
+// heap, so it is lent, and its length may be too short.
 ghost use Rattle.std.specs.Prelude.{◌≡◌, ◌+◌, ◌*◌, ◌<◌, [], ◌∷◌, ◌++◌};
 
 use crate::message::Message;

@@ -12,8 +12,8 @@ pub struct Line<'a> {
 #[derive(Drop)]
 pub struct Verdict {
     pub kind: Kind,
-    pub length: usize,
-    pub accepted: bool,
+    // The length of what was accepted.
+    pub accepted: Option<usize>,
     // What the library said, where the list says something else.
     pub other: Option<String>,
 }
@@ -57,8 +57,7 @@ impl<'a> Line<'a> {
         };
         Ok(Verdict {
             kind: self.kind,
-            length: self.bytes.len(),
-            accepted: answer.0.is_ok(),
+            accepted: answer.0.is_ok().then_some(self.bytes.len()),
             other,
         })
     }

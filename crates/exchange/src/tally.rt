@@ -12,11 +12,12 @@ pub struct Tally {
 
 impl Tally {
     pub fn count(&mut self, verdict: &Verdict) {
-        if verdict.accepted {
-            self.accepted = self.accepted.saturating_add(1);
-            self.longest = self.longest.max(verdict.length);
-        } else {
-            self.refused = self.refused.saturating_add(1);
+        match verdict.accepted {
+            Some(length) => {
+                self.accepted = self.accepted.saturating_add(1);
+                self.longest = self.longest.max(length);
+            }
+            None => self.refused = self.refused.saturating_add(1),
         }
         if verdict.other.is_some() {
             self.differ = self.differ.saturating_add(1);

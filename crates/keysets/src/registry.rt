@@ -13,6 +13,7 @@ pub struct Place<M> {
 }
 
 // Managers are registered by their place in the bank, so there is room for all of them.
+// It has no model: a model's value cannot use the members of a bound, and what the managers mean is said by theirs.
 #[derive(Drop)]
 pub struct Registry<'a, M> {
     bank: &'a mut [Place<M>],

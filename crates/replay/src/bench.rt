@@ -79,7 +79,9 @@ impl<'a, M: Kind> Bench<'a, M> {
     // A template outside the limits cannot be made, and the call is left out.
     fn make(&mut self, making: Making, asked: Asked) -> Result<Answer, Stop> {
         let value = rows::read(self.heap, asked.value)?;
-        let kt = KeyTemplate::new(asked.type_url, &value, asked.prefix).map_err(|_| Stop::LeftOut)?;
+        let kt = KeyTemplate::new(asked.type_url, &value, asked.prefix.unwrap_or(0)).map_err(
+            |_| Stop::LeftOut,
+        )?;
         let words = mem::replace(&mut self.words, Vec::new(self.heap));
         let mut tape = Tape::new(&words);
         let answer = self.made(making, &kt, &mut tape);

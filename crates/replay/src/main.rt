@@ -13,6 +13,7 @@ mod script;
 mod stop;
 mod tally;
 
+// As `exchange` takes its list. A library function for it could promise nothing.
 fn input(rt: &HostRuntime) -> anyhow::Result<String> {
     let mut args = env::args(rt)?;
     let _program = args.next();

@@ -4,11 +4,11 @@ use encoding::records::KeyId;
 use keysets::manager::Edit;
 use std::str::SplitWhitespace;
 
-// What a template or a key is made of. A key has no prefix type, and 0 stands there.
+// What a template or a key is made of. A key has no prefix type; a template's is any number, as the record's is.
 #[derive(Clone, Copy)]
 pub struct Asked<'a> {
     pub type_url: &'a [u8],
-    pub prefix: i32,
+    pub prefix: Option<i32>,
     pub value: &'a str,
 }
 
@@ -63,7 +63,7 @@ impl<'a> Words<'a> {
     fn template(&mut self) -> anyhow::Result<Asked<'a>> {
         Ok(Asked {
             type_url: self.type_url()?,
-            prefix: self.word()?.parse::<i32>()?,
+            prefix: Some(self.word()?.parse::<i32>()?),
             value: self.word()?,
         })
     }
@@ -72,7 +72,7 @@ impl<'a> Words<'a> {
     fn key(&mut self) -> anyhow::Result<Asked<'a>> {
         Ok(Asked {
             type_url: self.type_url()?,
-            prefix: 0,
+            prefix: None,
             value: self.word()?,
         })
     }

@@ -11,7 +11,7 @@ use keysets::manager::Manager;
 use std::alloc::{AllocError, Global};
 use std::fmt;
 
-// What is listed of a key.
+// What is listed of a key. Status and prefix type are the record's, which holds any number.
 #[derive(Clone, Copy)]
 struct Row {
     id: KeyId,
@@ -62,13 +62,9 @@ impl fmt::Display for Row {
 fn row_at(manager: &Manager, at: usize) -> Option<Row>
     ensures { result ≡ option_map (row_of manager.now.primary_key_id) (item manager.now.keys at) }
 {
-    let (Some(id), Some(status), Some(prefix)) = (
-        manager.key_id_at(at),
-        manager.status_at(at),
-        manager.prefix_type_at(at),
-    ) else {
-        return None;
-    };
+    let id = manager.key_id_at(at)?;
+    let status = manager.status_at(at)?;
+    let prefix = manager.prefix_type_at(at)?;
     let is_primary = id == manager.primary_key_id();
     Some(Row {
         id,

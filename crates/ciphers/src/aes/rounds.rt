@@ -20,6 +20,8 @@ pub(super) fn sub_bytes(a: u8, b: u8, c: u8, d: u8) -> u32
     u32::from_be_bytes([sbox(a), sbox(b), sbox(c), sbox(d)])
 }
 
+// Each round takes its four columns apart by itself: a function for that would answer an array of arrays, of which each
+// byte would have to be looked up twice.
 pub(super) fn full_round(s: [u32; 4], k: [u32; 4]) -> [u32; 4]
     ensures { state_of result ≡ full_round (state_of s) (state_of k) }
 {

@@ -23,7 +23,8 @@ impl Manager {
         self.find(id).is_ok()
     }
 
-    // The first word drawn that is the id of no key, and how many words that took.
+    // The first word drawn that is the id of no key, and how many words that took: the count is asked for by the project's
+    // rules, and counts no index.
     fn new_key_id<D: Draws>(&self, words: &mut D) -> Result<(KeyId, u64), Fault>
         ensures id { result ≡ id_answer (drawn_id self.now.keys (D.left words.old)) }
         ensures words { D.left words.new ≡ words_after_id (drawn_id self.now.keys (D.left words.old)) (D.left words.old) }
@@ -72,8 +73,9 @@ impl Manager {
         }
     }
 
-    // A new key by a template, and perhaps the primary one: tink-core's `add` has the same parameter. A keyset of 16 keys refuses before anything else. Ids that differ
-    // keep differing, and the new key has a primitive: `primitive_at` at its position does not refuse.
+    // A new key by a template, and perhaps the primary one: tink-core's `add` has the same parameter. A keyset of 16 keys
+    // refuses before anything else. Ids that differ keep differing, and the new key has a primitive: `primitive_at` at its
+    // position does not refuse.
     pub fn add<M: KeyManager, D: Draws>(
         &mut self,
         registry: &Registry<M>,

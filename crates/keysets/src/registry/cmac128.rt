@@ -54,6 +54,7 @@ impl KeyManager for Cmac128 {
         let b = words.draw()?.to_be_bytes();
         let c = words.draw()?.to_be_bytes();
         let d = words.draw()?.to_be_bytes();
+        // No loop fills it: nothing is known of an array that is filled by `chunks_exact_mut`.
         let key = [
             a[0], a[1], a[2], a[3], b[0], b[1], b[2], b[3], c[0], c[1], c[2], c[3], d[0], d[1],
             d[2], d[3],
