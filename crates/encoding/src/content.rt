@@ -1,5 +1,6 @@
 // What a field holds.
-ghost use Rattle.std.specs.Prelude.{◌≡◌, MatchResult};
+ghost use Rattle.std.specs.Prelude.{◌≡◌, ◌==◌, List, ℕ, true, false, length, MatchResult};
+ghost use Rattle.std.specs.Borrow.{Bor};
 ghost use Rattle.ciphers.specs.Faults.{fault};
 ghost use Rattle.ciphers.specs.declared.fault.Refusal.TheVariants.{BreaksEncoding};
 ghost use Rattle.ciphers.specs.declared.fault.Layer.TheVariants.{Encoding};
@@ -39,5 +40,18 @@ impl<'a> Content<'a> {
             Content::Number(_) => Err(broken()),
             Content::Bytes(payload) => Ok(payload),
         }
+    }
+
+    // The bytes of a text that is written once, and never as no byte.
+    pub(crate) fn first_text(self, is_absent: bool) -> Result<&'a [u8], Fault>
+        ensures { MatchResult result
+            (λ b. (self.entry ≡ Bytes b) × (is_absent ≡ true) × ((length b.now == 0) ≡ false))
+            (λ f. (f ≡ fault BreaksEncoding Encoding) × ((b : Bor (List ℕ)) → self.entry ≡ Bytes b → is_absent ≡ true → (length b.now == 0) ≡ true)) }
+    {
+        let payload = self.bytes()?;
+        if !is_absent || payload.is_empty() {
+            return Err(broken());
+        }
+        Ok(payload)
     }
 }

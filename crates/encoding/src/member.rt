@@ -115,10 +115,7 @@ impl<const N: usize> Member for Bounded<u8, N> {
     }
 
     fn fill(&mut self, content: Content<'_>) -> Result<(), Fault> {
-        let payload = content.bytes()?;
-        if !self.is_empty() || payload.is_empty() {
-            return Err(broken());
-        }
+        let payload = content.first_text(self.is_empty())?;
         *self = Bounded::from_slice(payload, 0)?;
         Ok(())
     }
@@ -136,10 +133,7 @@ impl Member for TypeUrl {
     }
 
     fn fill(&mut self, content: Content<'_>) -> Result<(), Fault> {
-        let payload = content.bytes()?;
-        if !self.is_empty() || payload.is_empty() {
-            return Err(broken());
-        }
+        let payload = content.first_text(self.is_empty())?;
         *self = TypeUrl::new(payload)?;
         Ok(())
     }
