@@ -11,4 +11,4 @@ mod draws;
 #[cfg(test)]
 mod faults;
 #[cfg(test)]
-mod rows;
+mod hex_rows;
