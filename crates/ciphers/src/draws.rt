@@ -67,7 +67,7 @@ pub struct CipherWords {
 fn first_word(block: [u8; 16]) -> u32
     ensures { result ≡ number (take 4 block) }
 {
-    u32::from_be_bytes([block[0], block[1], block[2], block[3]])
+    u32::from_be_bytes(*block.first_chunk().unwrap())
 }
 
 // Word n of a key.
