@@ -1,4 +1,4 @@
-// An Aead that hides nothing and guards against nothing but a text of another length: for tests and the work bench.
+// An Aead that hides nothing and guards against nothing but a text of another length: for tests and for comparing with other software.
 ghost use Rattle.std.specs.Prelude.{◌≡◌, ◌+◌, ◌≤◌, ◌++◌, length, drop, Some, None, MatchOption};
 ghost use Rattle.ciphers.specs.Aeads.{Encrypted, out_of_bounds, sealing_answer, sealed_into};
 ghost use Rattle.ciphers.specs.Covers.{covered, uncovered};

@@ -1,5 +1,5 @@
 // The one error of all four libraries: which refusal, from which layer, at which place, for which reason.
-// It is made once, where a call refuses, and climbs by `?` with all four parts intact.
+// It is made once, where a call refuses, and each call above hands it on by `?` unchanged.
 ghost use Rattle.std.specs.Prelude.{◌≡◌, Some};
 ghost use Rattle.ciphers.specs.Printed.{words_of, has_reason, printed};
 ghost use Rattle.ciphers.specs.Faults.{number_of, letter_of, fault, placed, reasoned};

@@ -5,7 +5,7 @@
 #![tactic(auto)]
 
 ghost use Rattle.known.specs.Examples.{Inverts, ZeroStays, TellsApart, At53};
-ghost use Rattle.known.specs.Examples.{FipsC1, MacOfNone, MacOfForty, SivA1, S2vA2};
+ghost use Rattle.known.specs.Examples.{FipsC1, FirstSubkey, SecondSubkey, MacOfNone, MacOfForty, SivA1, S2vA2};
 
 // FIPS 197, 4.4 and 5.1.1: what the S-box starts from really is the inverse, and 0 at 0.
 pub fn inverse_inverts()
@@ -21,6 +21,11 @@ pub fn sbox_tells_apart()
 
 pub fn fips197_c1()
     ensures { FipsC1 }
+{}
+
+pub fn rfc4493_subkeys()
+    ensures first { FirstSubkey }
+    ensures second { SecondSubkey }
 {}
 
 pub fn rfc4493_example1()

@@ -41,7 +41,7 @@ impl Aes128 {
         ensures { state_of result ≡ cipher_by (map word_bytes self.now.words) (state_of text) }
     {
         let mut s = add_round_key(text, self.round_key(0));
-        // Round i takes round key i. A chunk of the words would have to be made four words again.
+        // By number: a chunk of the words is a slice, and a round takes four words.
         for i in 1..10 {
             let next = full_round(s, self.round_key(i));
             s = next;
