@@ -47,6 +47,23 @@ def fits(name, m):
         not m.HasField("keyset_info") or fits("KeysetInfo", m.keyset_info))
 
 
+# The rows of docs/encoding.md's tables, and each limit and rule at its edge.
+FIXED = {
+    "KeyData": ["0a0161120200011801", "0a00", "1200", "1800", "0a0120", "0a0121", "0a017e", "0a017f", "0a40" + 64 * "61",
+                "0a41" + 65 * "61", "128001" + 128 * "00", "128101" + 129 * "00", "120101" + "0a0161"],
+    "KeyTemplate": ["0a40" + 64 * "61", "0a41" + 65 * "61", "0a0120", "0a017f", "128001" + 128 * "00", "128101" + 129 * "00"],
+    "Key": ["0a00", "0a000a00", "0a020a00", "1009", "10ffffffffffffffffff01", "1080808080f8ffffffff01", "10ffffffff07",
+            "108080808008", "10ffffffff0f", "10fffffff7ffffffffff01", "18ffffffff0f", "188080808010"],
+    "Keyset": ["089601", "1200", "0800", "08070807", "08070808", "12000807", "088700", "880007", "088080808010",
+               "08ffffffffffffffffff02", "0880808080808080808080808001", "08", "0807120218", "080712021800", "12ffffffffffffffffff01",
+               "1200120412020a01", "12000a00", "08071a00", "1a00", "0a00", "1001", "0007", "0200", "0d00000000",
+               "090000000000000000", "0b0c", "0e", "0f", 16 * "1200", 17 * "1200"],
+    "KeyInfo": ["0a40" + 64 * "61", "0a41" + 65 * "61", "0a0120", "0a017f", "0a00"],
+    "KeysetInfo": [16 * "1200", 17 * "1200"],
+    "EncryptedKeyset": ["1a00", "1a001a00", "1200", "0801", "12c020" + 4160 * "00", "12c120" + 4161 * "00"],
+}
+
+
 def encoding(pb, name, data):
     """Are these bytes the encoding of a record within the limits?"""
     m = getattr(pb, name)()
@@ -112,7 +129,7 @@ def largest(pb, name, past=0):
     """The record with the most bytes; with `past` one item or byte more than the limit."""
     m = getattr(pb, name)()
     if name in ("KeyData", "KeyTemplate", "KeyInfo"):
-        m.type_url = "~" * 64
+        m.type_url = "~" * (64 + past if name == "KeyInfo" else 64)
     if name in ("KeyData", "KeyTemplate"):
         m.value = b"\xff" * (128 + past)
     if name == "KeyData":
@@ -120,7 +137,7 @@ def largest(pb, name, past=0):
     if name in ("KeyTemplate", "Key", "KeyInfo"):
         m.output_prefix_type = -1
     if name == "Key":
-        m.key_data.CopyFrom(largest(pb, "KeyData"))
+        m.key_data.CopyFrom(largest(pb, "KeyData", past))
     if name in ("Key", "KeyInfo"):
         m.status = -1
         m.key_id = 2**32 - 1
@@ -218,11 +235,13 @@ def damaged(rng, data):
 
 def cases(pb, seed, count):
     yield "Keyset", bytes.fromhex("08071206100318072001")
-    yield "Key", bytes.fromhex("0a00")
     for name in NAMES:
         yield name, b""
         yield name, largest(pb, name).SerializeToString()
         yield name, largest(pb, name, 1).SerializeToString()
+    for name, inputs in FIXED.items():
+        for data in inputs:
+            yield name, bytes.fromhex(data)
     for i in range(count):
         rng = random.Random(f"{seed}/{i}")
         name = NAMES[i % 7]
