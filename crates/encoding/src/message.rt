@@ -107,7 +107,7 @@ fn step<'a, R: Message>(made: &mut R, last: u64, rest: &'a [u8]) -> Result<Piece
     Ok(piece)
 }
 
-// The record whose encoding the input is. Any other input is refused, at the first top-level field that breaks a rule.
+// The record whose encoding the input is. Any other input is refused where it stops being the front of one.
 pub fn read<R: Message>(input: &[u8]) -> Result<R, Fault>
     ensures { MatchResult result (λ v. encode (R.fields v) ≡ input.now) (λ f. Unread R.fields input.now f) }
 {
