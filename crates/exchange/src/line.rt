@@ -18,14 +18,27 @@ pub struct Verdict {
     pub other: Option<String>,
 }
 
-// The bytes of a word of digits. What is no digit is passed over, and so is a last digit without a second.
-fn bytes_of(heap: Global, word: &str) -> anyhow::Result<Vec<u8>> {
-    let mut digits = word
-        .bytes()
-        .filter(|c| matches!(*c, b'0'..=b'9' | b'a'..=b'f'))
-        .collect::<Vec<u8>>(heap)?;
-    digits.truncate(digits.len() / 2 * 2);
-    Ok(hex::decode(heap, digits)?)
+// What a digit stands for.
+fn digit(c: u8) -> Option<u8> {
+    match c {
+        b'0'..=b'9' => Some(c - b'0'),
+        b'a'..=b'f' => Some(c - b'a' + 10),
+        _ => None,
+    }
+}
+
+// The bytes of a word of digits. What is no digit is passed over, and so is a last digit without a second. They are made as the
+// word is read, with no copy of the digits beside them.
+fn bytes_of(heap: Global, word: &str) -> Result<Vec<u8>, AllocError> {
+    let mut bytes = Vec::new(heap);
+    let mut high: Option<u8> = None;
+    for d in word.bytes().filter_map(digit) {
+        match high.take() {
+            None => high = Some(d),
+            Some(h) => bytes.push(h << 4 | d)?,
+        }
+    }
+    Ok(bytes)
 }
 
 impl<'a> Line<'a> {
