@@ -26,21 +26,24 @@ fn is_passed_over(line: &str) -> bool {
     line.is_empty() || line.starts_with('#')
 }
 
+// The pairs are made as the lines are read, with no list of the lines beside them.
 pub fn pairs(heap: Global, text: &str) -> anyhow::Result<Vec<Pair<'_>>> {
     let lines = text
         .lines()
         .enumerate()
-        .filter(|(_, line)| !is_passed_over(line))
-        .collect::<Vec<(usize, &str)>>(heap)?;
-    let (pairs, rest) = lines.as_chunks::<2>();
-    ensure!(rest.is_empty(), "the last command has no answer");
-    let pairs = pairs
-        .iter()
-        .map(|[(i, command), (_, answer)]| Pair {
-            line: i.saturating_add(1),
-            command,
-            answer,
-        })
-        .collect(heap)?;
+        .filter(|(_, line)| !is_passed_over(line));
+    let mut pairs = Vec::new(heap);
+    let mut waiting = None;
+    for (i, line) in lines {
+        match waiting.take() {
+            None => waiting = Some((i, line)),
+            Some((i, command)) => pairs.push(Pair {
+                line: i.saturating_add(1),
+                command,
+                answer: line,
+            })?,
+        }
+    }
+    ensure!(waiting.is_none(), "the last command has no answer");
     Ok(pairs)
 }
