@@ -57,7 +57,7 @@ each_more {R} fields k xs i x l e =
 pub alone : (fs : List Field) (old new : Output) → Laid (encode fs) old new → Laid (encode (fs ++ [])) old new
 alone fs old new p = laid_as _ _ old new (ap encode (sym (append-nil fs))) p
 
-key-size : (v : ℕ) → v < 128 → length (varint v) ≡ 1
+pub key-size : (v : ℕ) → v < 128 → length (varint v) ≡ 1
 key-size v h = ap length (base128_last 9 v (omega (arith, cap_nine)) h)
 
 pub number_size : (k v : ℕ) → k < 16 → (v ≢ 0) → length (varint v) + 1 ≡ length (encode (unsigned k v))

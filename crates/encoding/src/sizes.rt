@@ -16,10 +16,13 @@ pub(crate) fn unsigned_len(value: u64) -> usize
     varint_len(value) + 1
 }
 
-// A field with so many bytes in it.
+// A field with so many bytes in it. Most lengths take one byte, and then no sum has to stop.
 fn field_len(len: usize) -> usize
     ensures { (k : ℕ) (b : List ℕ) → k < 16 → len ≡ length b → Counted (encode_field (bytes k b)) result }
 {
+    if len < 0x80 {
+        return len + 2;
+    }
     len.saturating_add(varint_len(len as u64) + 1)
 }
 

@@ -53,11 +53,12 @@ impl Message for KeyInfo {
     }
 
     fn size(&self) -> usize {
-        self.type_url
+        let numbers = self
+            .status
             .size()
-            .saturating_add(self.status.size())
             .saturating_add(self.key_id.size())
-            .saturating_add(self.output_prefix_type.size())
+            .saturating_add(self.output_prefix_type.size());
+        self.type_url.size().saturating_add(numbers)
     }
 
     fn put(&self, out: &mut Output<'_>) {

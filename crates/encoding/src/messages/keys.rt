@@ -101,11 +101,12 @@ impl Message for Key {
     }
 
     fn size(&self) -> usize {
-        self.key_data
+        let numbers = self
+            .status
             .size()
-            .saturating_add(self.status.size())
             .saturating_add(self.key_id.size())
-            .saturating_add(self.output_prefix_type.size())
+            .saturating_add(self.output_prefix_type.size());
+        self.key_data.size().saturating_add(numbers)
     }
 
     fn put(&self, out: &mut Output<'_>) {
