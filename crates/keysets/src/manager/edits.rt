@@ -1,6 +1,7 @@
 // The edits. Status and edit together decide, in one `match` that changes the key in place. The list lends no `&mut` to
 // an item, so the key is a copy and is put back.
-ghost use Rattle.std.specs.Prelude.{◌≡◌, not, if◌then◌else◌, Some, None, MatchResult};
+ghost use Rattle.std.specs.Prelude.{◌≡◌, ◌+◌, ◌++◌, take, drop, not, if◌then◌else◌, Some, None, MatchResult};
+ghost use Rattle.encoding.specs.Lists.{list};
 ghost use Rattle.encoding.specs.Views.{key_view};
 ghost use Rattle.keysets.specs.Answering.{only_if};
 ghost use Rattle.encoding.specs.Kinds.{status_of};
@@ -8,6 +9,7 @@ ghost use Rattle.keysets.specs.Edits.{position_of, key_at, takes, spares_primary
 
 use crate::manager::{Edit, Manager};
 use ciphers::fault::{Fault, Layer, Refusal};
+use encoding::bounded::Bounded;
 use encoding::message::Message;
 use encoding::numbers::KeyStatusType;
 use encoding::records::{Key, KeyId};
@@ -48,6 +50,14 @@ fn edit_key(key: &mut Key, edit: Edit, at: usize) -> Result<(), Fault>
         _ => return Err(Fault::new(Refusal::StatusBars, Layer::Manager).at(at)),
     }
     Ok(())
+}
+
+// The key at a place leaves. It is not inlined: the search for a key would count along the places of the move.
+#[inline(never)]
+fn take_out(keys: &mut Bounded<Key, 16>, at: usize)
+    ensures { list keys.new ≡ take at (list keys.old) ++ drop (at + 1) (list keys.old) }
+{
+    keys.remove(at, Key::empty());
 }
 
 impl Manager {
@@ -130,7 +140,7 @@ impl Manager {
                 self.ks.key.set(at, key);
             }
             Edit::Delete => {
-                self.ks.key.remove(at, Key::empty());
+                take_out(&mut self.ks.key, at);
             }
             Edit::SetPrimary => self.ks.primary_key_id = id,
         }

@@ -19,6 +19,6 @@ pub returns-in-Delete : goal.returns-in-Delete
 returns-in-Delete c =
     let ks = c.self.inside.ks in
     let e = c.in-Delete.is in
-    keyset_viewed Delete c.args.id c.args.at c.args.key ks (record { primary_key_id = ks.primary_key_id; key = c.remove.new.self; id_width = ks.id_width }) c.remove.ensures.items refl
+    keyset_viewed Delete c.args.id c.args.at c.args.key ks (record { primary_key_id = ks.primary_key_id; key = c.take_out.new.keys; id_width = ks.id_width }) c.take_out.ensures refl
     ∙ ap (keyset_after Delete c.args.id c.args.at (key_view c.args.key)) c.self.view_is
     ∙ ap (λ (x : Edit). keyset_after x c.args.id c.args.at (key_view c.args.key) c.args.self.now) (sym e)
