@@ -52,7 +52,7 @@ fn edit_key(key: &mut Key, edit: Edit, at: usize) -> Result<(), Fault>
     Ok(())
 }
 
-// The key at a place leaves. It is not inlined: the search for a key would count along the places of the move.
+// The key at a place leaves. It is not inlined, since the compiler puts the move of the keys into the loop that searches for one.
 #[inline(never)]
 fn take_out(keys: &mut Bounded<Key, 16>, at: usize)
     ensures { list keys.new ≡ take at (list keys.old) ++ drop (at + 1) (list keys.old) }
